@@ -1,0 +1,6 @@
+//! The variables of a boot loader.
+#![tactic(auto)]
+
+mod vars;
+
+pub use vars::Vars;

@@ -1,0 +1,4 @@
+pub mod Counts
+pub mod Digests
+pub mod Numbers
+pub mod Sinks

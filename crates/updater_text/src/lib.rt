@@ -1,0 +1,20 @@
+//! Texts, digests, numbers and sinks, and the answers that every crate of the updater shares.
+#![tactic(auto)]
+
+mod digest;
+mod items;
+mod memory_sink;
+mod number;
+mod sink;
+mod stops;
+mod text;
+mod writer_sink;
+
+pub use digest::Digest;
+pub use items::Items;
+pub use memory_sink::MemorySink;
+pub use number::read_number;
+pub use sink::{Failed, Sink, say, tell};
+pub use stops::{Fault, Lack, NoMemory, Stop};
+pub use text::Text;
+pub use writer_sink::WriterSink;

@@ -1,0 +1,45 @@
+use std::alloc::{AllocError, AllocFailed};
+
+/// Memory was wanting.
+#[derive(Clone, Copy, Debug, PartialEq, Eq)]
+pub struct NoMemory;
+
+impl From<AllocError> for NoMemory {
+    fn from(_: AllocError) -> Self {
+        NoMemory
+    }
+}
+
+impl<T: Drop> From<AllocFailed<T>> for NoMemory {
+    fn from(_: AllocFailed<T>) -> Self {
+        NoMemory
+    }
+}
+
+/// Why a call that only computes gave no value: a refusal of its own, or want of memory.
+#[derive(Clone, Debug, Drop)]
+pub enum Lack<R> {
+    Refused(R),
+    NoMemory,
+}
+
+/// The kind of a machine call that failed.
+#[derive(Clone, Copy, Debug, PartialEq, Eq)]
+pub enum Fault {
+    Read,
+    Write,
+    Sync,
+    Size,
+    Replace,
+    Run,
+    Clock,
+}
+
+/// Why a call over a machine gave no value: a refusal of its own, a machine call that failed, or
+/// want of memory.
+#[derive(Clone, Debug, Drop)]
+pub enum Stop<R> {
+    Refused(R),
+    Outside(Fault),
+    NoMemory,
+}
