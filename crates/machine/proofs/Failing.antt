@@ -1,0 +1,71 @@
+-- Which call failed first, and whether it was the last.
+use Rattle.std.proofs.Common.{◌≡◌, ◌++◌, ℕ, Bool, List, [], ◌∷◌, Option, None, Result, Ok, Err, IsTrue, refl, sym, ◌∙◌, ap, subst}
+use Rattle.std.proofs.lemmas.List.{append-nil}
+use Rattle.updater_text.specs.declared.stops.Fault.{Fault}
+use Rattle.machine.specs.declared.calls.CallStop.{CallStop}
+use Rattle.machine.specs.declared.calls.CallStop.TheVariants.{Failed, NoMemory}
+use Rattle.machine.specs.declared.calls.ReadStop.{ReadStop}
+use Rattle.machine.specs.declared.calls.ReadStop.TheVariants as read
+use Rattle.machine.specs.Past.{Call, File, End, Done, Broken, Overlong, Moment, Past, now, made, Grows, Did, kind_of, failed_or, first_failed, last_failed, failed_since, Fails}
+use Rattle.machine.specs.Calls.{Ends, FileEnds, call_fault, file_fault}
+use Rattle.machine.proofs.Moments.{made_more, made_none, made_joins, grows_refl, grows_trans, did_grows}
+
+failed_or-append : (end : End) (kind : Fault) (later after all : Option Fault) → (later ≡ None → all ≡ after) → failed_or end kind later ≡ None → failed_or end kind all ≡ after
+failed_or-append Done kind later after all f e = f e
+failed_or-append Overlong kind later after all f e = f e
+failed_or-append Broken kind later after all f e = cc
+
+first_failed-append : (ms ns : List Moment) → first_failed ms ≡ None → first_failed (ms ++ ns) ≡ first_failed ns
+first_failed-append [] ns e = refl
+first_failed-append (m ∷ ms) ns e =
+    failed_or-append m.end (kind_of m.call) (first_failed ms) (first_failed ns) (first_failed (ms ++ ns)) (λ h. first_failed-append ms ns h) e
+
+last_failed-some : (ms : List Moment) (n : Moment) (ns : List Moment) → last_failed (ms ++ n ∷ ns) ≡ last_failed (n ∷ ns)
+last_failed-some [] n ns = refl
+last_failed-some (m ∷ []) n ns = refl
+last_failed-some (m ∷ l ∷ ms) n ns = last_failed-some (l ∷ ms) n ns
+
+last_failed-append : (ms ns : List Moment) → last_failed ms ≡ None → last_failed (ms ++ ns) ≡ last_failed ns
+last_failed-append ms [] e = ap last_failed (append-nil ms) ∙ e
+last_failed-append ms (n ∷ ns) e = last_failed-some ms n ns
+
+-- nothing done
+pub fails_none : (t : Bool) (a : Past) → Fails t a a None
+fails_none t a = record { grows = λ told. grows_refl a; first = λ told. ap first_failed (made_none a); last = λ told. ap last_failed (made_none a) }
+
+-- one run after another
+pub fails_join : (t : Bool) (a b c : Past) (kind : Option Fault) → Fails t a b None → Fails t b c kind → Fails t a c kind
+fails_join t a b c kind ab bc = record {
+  grows = λ told. grows_trans a b c (ab.grows told) (bc.grows told);
+  first = λ told. ap first_failed (made_joins a b c (ab.grows told) (bc.grows told)) ∙ first_failed-append (made a b) (made b c) (ab.first told) ∙ bc.first told;
+  last = λ told. ap last_failed (made_joins a b c (ab.grows told) (bc.grows told)) ∙ last_failed-append (made a b) (made b c) (ab.last told) ∙ bc.last told;
+}
+
+-- one call
+did_made : (a b : Past) (call : Call) (end : End) → Did a b call end → made a b ≡ record { call = call; end = end; after = now b } ∷ []
+did_made a b call end did = ap (λ (p : Past). made a p) did.grows ∙ made_more a (record { call = call; end = end; after = now b } ∷ [])
+
+same_fails : (t : Bool) (a b : Past) → (IsTrue t → b ≡ a) → Fails t a b None
+same_fails t a b same = record {
+  grows = λ told. subst (λ (q : Past). Grows a q) (sym (same told)) (grows_refl a);
+  first = λ told. subst (λ (q : Past). failed_since a q ≡ None) (sym (same told)) ((fails_none t a).first told);
+  last = λ told. subst (λ (q : Past). last_failed (made a q) ≡ None) (sym (same told)) ((fails_none t a).last told);
+}
+
+one_fails : (t : Bool) (a b : Past) (call : Call) (end : End) → (IsTrue t → Did a b call end) → Fails t a b (failed_or end (kind_of call) None)
+one_fails t a b call end did = record {
+  grows = λ told. did_grows a b call end (did told);
+  first = λ told. ap first_failed (did_made a b call end (did told));
+  last = λ told. ap last_failed (did_made a b call end (did told));
+}
+
+pub fails_call : {T : Type 0} (t : Bool) (a b : Past) (call : Call) (result : Result T CallStop) → (IsTrue t → Ends a b call result) → Fails t a b (call_fault (kind_of call) result)
+fails_call t a b call (Ok x) ends = one_fails t a b call Done ends
+fails_call t a b call (Err Failed) ends = one_fails t a b call Broken ends
+fails_call t a b call (Err NoMemory) ends = same_fails t a b ends
+
+pub fails_file : {T : Type 0} (t : Bool) (a b : Past) (path : List ℕ) (result : Result T ReadStop) → (IsTrue t → FileEnds a b path result) → Fails t a b (file_fault result)
+fails_file t a b path (Ok x) ends = one_fails t a b (File path) Done ends
+fails_file t a b path (Err read.Failed) ends = one_fails t a b (File path) Broken ends
+fails_file t a b path (Err (read.TooLong n)) ends = one_fails t a b (File path) Overlong ends
+fails_file t a b path (Err read.NoMemory) ends = same_fails t a b ends

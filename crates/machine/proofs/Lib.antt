@@ -1,0 +1,6 @@
+pub mod Moments
+pub mod Worlds
+pub mod Failing
+pub mod Joins
+pub mod Reading
+pub mod Only

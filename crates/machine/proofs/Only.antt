@@ -1,0 +1,194 @@
+-- Writes in one range of one disk: they compose, and each call on the range keeps them.
+use Rattle.std.proofs.Common.{◌≡◌, ◌≢◌, inl, inr, ⊎_elim, ℕ, ◌+◌, ◌≤◌, ◌<◌, Bool, List, [], ◌∷◌, ◌++◌, length, Option, Some, None, refl, sym, ◌∙◌, ap, subst, arith, append_assoc, IsTrue}
+use Rattle.std.proofs.lemmas.List.{append-nil}
+use Rattle.std.specs.Prelude.{bytes_eq, not, slice_get, Result}
+use Rattle.std.specs.Option.{option_map, option_and_then}
+use Rattle.machine.specs.declared.world.Span.{Span}
+use Rattle.machine.specs.declared.world.World.{World}
+use Rattle.machine.specs.declared.calls.CallStop.{CallStop}
+use Rattle.machine.specs.World.{disk, disk_byte, disk_length, readable, patched, written, synced, Holds}
+use Rattle.machine.specs.Past.{Scribbled, Sync, Write, End, Done, Broken, Overlong, After, Past, now}
+use Rattle.machine.specs.Calls.{Ends, HasRoom}
+use Rattle.machine.specs.Frames.{InRange, IsRead, OnlyIn, OnlyReads, OnlyWrites}
+use Rattle.machine.proofs.Moments.{always_joins, always_now, always_weaker, always_ends}
+use Rattle.machine.proofs.Worlds.{bytes_under-patch_same, bytes_under-patch_other, by_path, byte-patched, length-patched, is_in_one, is_in-append, is_in-filter, same_disk}
+
+pub only_refl : (device : List ℕ) (from to : ℕ) (w : World) → OnlyIn device from to w w
+only_refl device from to w = record {
+  files = refl;
+  vars = refl;
+  runs = refl;
+  lengths = λ path. refl;
+  bytes = λ path i free. refl;
+  pending = λ path i h. inl h;
+  writes = ([], sym (append-nil w.writes));
+  fetched = omega arith;
+}
+
+pub only_trans : (device : List ℕ) (from to : ℕ) (u v w : World) → OnlyIn device from to u v → OnlyIn device from to v w → OnlyIn device from to u w
+only_trans device from to u v w uv vw = record {
+  files = vw.files ∙ uv.files;
+  vars = vw.vars ∙ uv.vars;
+  runs = vw.runs ∙ uv.runs;
+  lengths = λ path. vw.lengths path ∙ uv.lengths path;
+  bytes = λ path i free. vw.bytes path i free ∙ uv.bytes path i free;
+  pending = λ path i h. ⊎_elim (uv.pending path i) (λ r. inr r) (vw.pending path i h);
+  writes = (uv.writes.0 ++ vw.writes.0, vw.writes.1 ∙ ap (λ (s : List Span). s ++ vw.writes.0) uv.writes.1 ∙ append_assoc u.writes uv.writes.0 vw.writes.0);
+  fetched = omega (arith, uv.fetched, vw.fetched);
+}
+
+pub only_wider : (device : List ℕ) (from to from' to' : ℕ) (u v : World) → from' ≤ from → to ≤ to' → OnlyIn device from to u v → OnlyIn device from' to' u v
+only_wider device from to from' to' u v lower higher uv = record {
+  files = uv.files;
+  vars = uv.vars;
+  runs = uv.runs;
+  lengths = uv.lengths;
+  bytes = λ path i free. uv.bytes path i (λ r. free (wider path i r));
+  pending = λ path i h. ⊎_elim (λ e. inl e) (λ r. inr (wider path i r)) (uv.pending path i h);
+  writes = uv.writes;
+  fetched = uv.fetched;
+}
+  where
+    wider : (path : List ℕ) (i : ℕ) → InRange device from to path i → InRange device from' to' path i
+    wider path i r = (r.0, omega (arith, r.1), omega (arith, r.2))
+
+-- each call
+pub only_read : (device : List ℕ) (from to : ℕ) (u v : World) → IsRead u v → OnlyIn device from to u v
+only_read device from to u v h = subst (λ (w : World). OnlyIn device from to u w) (sym h.same) (fetched device from to u v.fetched h.fetched)
+  where
+    fetched : (device : List ℕ) (from to : ℕ) (w : World) (f : ℕ) → w.fetched ≤ f → OnlyIn device from to w (record w { fetched = f })
+    fetched device from to w f grows = record {
+      files = refl;
+      vars = refl;
+      runs = refl;
+      lengths = λ path. refl;
+      bytes = λ path i free. refl;
+      pending = λ path i h. inl h;
+      writes = ([], sym (append-nil w.writes));
+      fetched = grows;
+    }
+
+-- the bytes of a disk that was written
+pub disk-written : (w : World) (device : List ℕ) (at : ℕ) (bytes old : List ℕ) → disk w device ≡ Some old → disk (written w device at bytes) device ≡ Some (patched old at bytes)
+unfolding written
+disk-written w device at bytes old is = bytes_under-patch_same w.disks device at bytes old is
+
+disk-written_other : (w : World) (device path : List ℕ) (at : ℕ) (bytes : List ℕ) → path ≢ device → disk (written w device at bytes) path ≡ disk w path
+unfolding written
+disk-written_other w device path at bytes ne = bytes_under-patch_other w.disks device path at bytes ne
+
+-- the bytes of a disk with a length
+pub bytes_of : (o : Option (List ℕ)) (n : ℕ) → option_map length o ≡ Some n → (bytes : List ℕ) × (o ≡ Some bytes) × (length bytes ≡ n)
+bytes_of None n e = let bad : ⊥ = cc in absurd bad
+bytes_of (Some bytes) n e = (bytes, refl, cc)
+
+pub only_written : (w : World) (device : List ℕ) (at n : ℕ) (bytes : List ℕ) → Holds w device (at + n) → length bytes ≡ n → OnlyIn device at (at + n) w (written w device at bytes)
+unfolding written
+only_written w device at n bytes holds count =
+    let old = bytes_of (disk w device) holds.0 holds.1 in
+    let is : disk (written w device at bytes) device ≡ Some (patched old.0 at bytes) = disk-written w device at bytes old.0 old.1 in
+    let fits : at + length bytes ≤ length old.0 = omega (arith, holds.2, old.2, count) in
+    record {
+      files = refl;
+      vars = refl;
+      runs = refl;
+      lengths = λ path.
+          ⊎_elim
+          (λ same. subst (λ (p : List ℕ). disk_length (written w device at bytes) p ≡ disk_length w p) (sym same)
+          (ap (λ (o : Option (List ℕ)). option_map length o) is ∙ ap (λ (k : ℕ). Some k) (length-patched old.0 at bytes fits) ∙ sym (ap (λ (o : Option (List ℕ)). option_map length o) old.1)))
+          (λ other. ap (λ (o : Option (List ℕ)). option_map length o) (disk-written_other w device path at bytes other))
+          (by_path path device);
+      bytes = λ path i free.
+          ⊎_elim
+          (λ same. subst (λ (p : List ℕ). disk_byte (written w device at bytes) p i ≡ disk_byte w p i) (sym same)
+          (ap (λ (o : Option (List ℕ)). option_and_then (λ (x : List ℕ). slice_get x i) o) is
+          ∙ byte-patched old.0 at bytes i fits (λ low high. free (same, low, subst (λ (k : ℕ). i < at + k) count high))
+          ∙ sym (ap (λ (o : Option (List ℕ)). option_and_then (λ (x : List ℕ). slice_get x i) o) old.1)))
+          (λ other. ap (λ (o : Option (List ℕ)). option_and_then (λ (x : List ℕ). slice_get x i) o) (disk-written_other w device path at bytes other))
+          (by_path path device);
+      pending = λ path i h.
+          ⊎_elim (λ e. inl e)
+          (λ r. let p = is_in_one device path at (length bytes) i r in inr (sym p.0, p.1, omega (arith, p.2, count)))
+          (is_in-append w.pending (record { path = device; at = at; length = length bytes } ∷ []) path i h);
+      writes = (record { path = device; at = at; length = length bytes } ∷ [], refl);
+      fetched = omega arith;
+    }
+
+pub only_synced : (device : List ℕ) (from to : ℕ) (w : World) → OnlyIn device from to w (synced w device)
+unfolding synced
+only_synced device from to w = record {
+  files = refl;
+  vars = refl;
+  runs = refl;
+  lengths = λ path. refl;
+  bytes = λ path i free. refl;
+  pending = λ path i h. inl (is_in-filter (λ s. not (bytes_eq s.path device)) w.pending path i h);
+  writes = ([], sym (append-nil w.writes));
+  fetched = omega arith;
+}
+
+only_scribbled : (w u : World) (device : List ℕ) (at n : ℕ) → Holds w device (at + n) → Scribbled device at n w u → OnlyIn device at (at + n) w u
+only_scribbled w u device at n holds h =
+    subst (λ (x : World). OnlyIn device at (at + n) w x) (sym h.2) (only_written w device at n h.0 holds h.1)
+
+only_same : (w u : World) (device : List ℕ) (from to : ℕ) → u ≡ w → OnlyIn device from to w u
+only_same w u device from to e = subst (λ (x : World). OnlyIn device from to w x) (sym e) (only_refl device from to w)
+
+after_write : (w u : World) (device : List ℕ) (at n : ℕ) (end : End) → Holds w device (at + n) → After (Write device at n) end w u → OnlyIn device at (at + n) w u
+after_write w u device at n Done holds h = only_scribbled w u device at n holds h
+after_write w u device at n Broken holds (inl h) = only_same w u device at (at + n) h
+after_write w u device at n Broken holds (inr h) = only_scribbled w u device at n holds h
+after_write w u device at n Overlong holds h = only_same w u device at (at + n) h
+
+after_sync : (w v : World) (device : List ℕ) (from to : ℕ) (end : End) → After (Sync device) end w v → OnlyIn device from to w v
+after_sync w v device from to Done h = subst (λ (x : World). OnlyIn device from to w x) (sym h) (only_synced device from to w)
+after_sync w v device from to Broken h = only_same w v device from to h
+after_sync w v device from to Overlong h = only_same w v device from to h
+
+-- whole calls
+pub writes_write : {T : Type 0} (t : Bool) (a b : Past) (device : List ℕ) (at n : ℕ) (result : Result T CallStop) → HasRoom t a device (at + n) → (IsTrue t → Ends a b (Write device at n) result) → OnlyWrites t device at (at + n) a b
+writes_write t a b device at n result has ends = record {
+  all = λ told.
+      let holds = has.room told in
+      always_ends a b (Write device at n) (OnlyIn device at (at + n) (now a)) result (ends told) (only_refl device at (at + n) (now a)) (λ u h. only_scribbled (now a) u device at n holds h) (λ end v h. after_write (now a) v device at n end holds h);
+}
+
+pub writes_sync : {T : Type 0} (t : Bool) (a b : Past) (device : List ℕ) (from to : ℕ) (result : Result T CallStop) → (IsTrue t → Ends a b (Sync device) result) → OnlyWrites t device from to a b
+writes_sync t a b device from to result ends = record {
+  all = λ told. always_ends a b (Sync device) (OnlyIn device from to (now a)) result (ends told) (only_refl device from to (now a)) (λ u h. only_same (now a) u device from to h) (λ end v h. after_sync (now a) v device from to end h);
+}
+
+pub writes_none : (t : Bool) (device : List ℕ) (from to : ℕ) (a b : Past) → OnlyReads t a b → OnlyWrites t device from to a b
+writes_none t device from to a b reads = record {
+  all = λ told. always_weaker a b (IsRead (now a)) (OnlyIn device from to (now a)) (λ u h. only_read device from to (now a) u h) (reads.all told);
+}
+
+pub writes_join : (t : Bool) (device : List ℕ) (from to : ℕ) (a b c : Past) → OnlyWrites t device from to a b → OnlyWrites t device from to b c → OnlyWrites t device from to a c
+writes_join t device from to a b c ab bc = record {
+  all = λ told.
+      let left = ab.all told in
+      let here = always_now a b (OnlyIn device from to (now a)) left in
+      always_joins a b c (OnlyIn device from to (now a)) left (always_weaker b c (OnlyIn device from to (now b)) (OnlyIn device from to (now a)) (λ u h. only_trans device from to (now a) (now b) u here h) (bc.all told));
+}
+
+pub writes_wider : (t : Bool) (device : List ℕ) (from to from' to' : ℕ) (a b : Past) → from' ≤ from → to ≤ to' → OnlyWrites t device from to a b → OnlyWrites t device from' to' a b
+writes_wider t device from to from' to' a b lower higher ab = record {
+  all = λ told. always_weaker a b (OnlyIn device from to (now a)) (OnlyIn device from' to' (now a)) (λ u h. only_wider device from to from' to' (now a) u lower higher h) (ab.all told);
+}
+
+-- lengths stay, and so does room
+pub holds_only : (device : List ℕ) (from to : ℕ) (u v : World) (path : List ℕ) (end : ℕ) → OnlyIn device from to u v → Holds u path end → Holds v path end
+holds_only device from to u v path end only holds = (holds.0, only.lengths path ∙ holds.1, holds.2)
+
+pub room_writes : (t : Bool) (device : List ℕ) (from to : ℕ) (a b : Past) (path : List ℕ) (end : ℕ) → OnlyWrites t device from to a b → HasRoom t a path end → HasRoom t b path end
+room_writes t device from to a b path end writes has = record {
+  room = λ told. holds_only device from to (now a) (now b) path end (always_now a b (OnlyIn device from to (now a)) (writes.all told)) (has.room told);
+}
+
+-- what is under another path stays
+pub disk_only : (device : List ℕ) (from to : ℕ) (u v : World) (path : List ℕ) → path ≢ device → OnlyIn device from to u v → disk v path ≡ disk u path
+disk_only device from to u v path ne only = same_disk (disk v path) (disk u path) (only.lengths path) (λ i. only.bytes path i (λ r. ne r.0))
+
+pub readable_only : (device : List ℕ) (from to : ℕ) (u v : World) (path : List ℕ) → path ≢ device → OnlyIn device from to u v → readable v path ≡ readable u path
+unfolding readable
+readable_only device from to u v path ne only = rw (disk_only device from to u v path ne only, only.files) refl

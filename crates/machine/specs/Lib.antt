@@ -1,0 +1,6 @@
+pub mod World
+pub mod Crash
+pub mod Past
+pub mod Calls
+pub mod Frames
+pub mod Stops

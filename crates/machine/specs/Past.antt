@@ -1,0 +1,144 @@
+-- The past of a machine: its calls in order, each with its end and the world after it.
+use Rattle.std.specs.Prelude.{◌≡◌, ◌≤◌, ◌⊎◌, ℕ, Bool, IsTrue, List, [], ◌∷◌, ◌++◌, length, take, drop, Option, Some, None}
+use Rattle.updater_text.specs.declared.stops.Fault.{Fault}
+use Rattle.updater_text.specs.declared.stops.Fault.TheVariants as fault
+use Rattle.machine.specs.declared.world.World.{World}
+use Rattle.machine.specs.World.{written, synced, fetching}
+use Rattle.machine.specs.Crash.{Crash}
+
+-- a call with its arguments; of a write the place and length, of a read the number of bytes that it gave
+pub data Call : Type 0 where
+  File : (path : List ℕ) → Call
+  Size : (path : List ℕ) → Call
+  Read : (path : List ℕ) (count : ℕ) → Call
+  Write : (path : List ℕ) (at count : ℕ) → Call
+  Sync : (path : List ℕ) → Call
+
+-- how a call ended: it was done, it failed, or the file was longer than asked for
+pub data End : Type 0 where
+  Done : End
+  Broken : End
+  Overlong : End
+
+-- the kind of a call
+abbrev pub kind_of : Call → Fault
+kind_of (File path) = fault.Read
+kind_of (Size path) = fault.Size
+kind_of (Read path count) = fault.Read
+kind_of (Write path at count) = fault.Write
+kind_of (Sync path) = fault.Sync
+
+-- v is w with a range of the disk written, with any bytes
+abbrev pub Scribbled : List ℕ → ℕ → ℕ → World → World → Type 0
+Scribbled path at count w v = (bytes : List ℕ) × (length bytes ≡ count) × (v ≡ written w path at bytes)
+
+-- the world v after a call that began in w
+abbrev pub After : Call → End → World → World → Type 0
+After (Read path count) Done w v = v ≡ fetching w path count
+After (Write path at count) Done w v = Scribbled path at count w v
+After (Write path at count) Broken w v = (v ≡ w) ⊎ Scribbled path at count w v
+After (Sync path) Done w v = v ≡ synced w path
+After call end w v = v ≡ w
+
+-- a world u in which the power may stop inside a call that began in w
+abbrev pub Inside : Call → World → World → Type 0
+Inside (Write path at count) w u = Scribbled path at count w u
+Inside call w u = u ≡ w
+
+pub record Moment : Type 0 where
+  pub call : Call
+  pub end : End
+  pub after : World
+
+pub record Past : Type 0 where
+  pub first : World
+  pub moments : List Moment
+
+-- the world after these moments
+abbrev pub world_after : World → List Moment → World
+world_after w [] = w
+world_after w (m ∷ ms) = world_after m.after ms
+
+-- the world as it is now
+abbrev pub now : Past → World
+now p = world_after p.first p.moments
+
+-- the past with these moments more
+abbrev pub more : Past → List Moment → Past
+more p ms = record p { moments = p.moments ++ ms }
+
+-- the moments of new that are not of old
+abbrev pub made : Past → Past → List Moment
+made old new = drop (length old.moments) new.moments
+
+-- new goes on from old, and changes no earlier moment
+abbrev pub Grows : Past → Past → Type 0
+Grows old new = new ≡ more old (made old new)
+
+-- u was the world at the begin or after one of these moments, or inside one of their calls
+abbrev pub WasIn : World → List Moment → World → Type 0
+WasIn w [] u = u ≡ w
+WasIn w (m ∷ ms) u = (u ≡ w) ⊎ (Inside m.call w u ⊎ WasIn m.after ms u)
+
+-- u was the world at some moment since old, or inside a call made since
+abbrev pub Was : Past → Past → World → Type 0
+Was old new u = WasIn (now old) (made old new) u
+
+-- a stop of the power since old may have left v
+abbrev pub Held : Past → Past → World → Type 0
+Held old new v = (u : World) × Was old new u × Crash u v
+
+-- new goes on from old, and each world since, those inside the calls too, has P
+pub record Always (old new : Past) (P : World → Type 0) : Type 0 where
+  pub grows : Grows old new
+  pub each : (u : World) → Was old new u → P u
+
+-- new is old and this call
+pub record Did (old new : Past) (call : Call) (end : End) : Type 0 where
+  pub grows : new ≡ more old (record { call = call; end = end; after = now new } ∷ [])
+  pub after : After call end (now old) (now new)
+
+-- a call that failed, and what is said where it did not
+abbrev pub failed_or : End → Fault → Option Fault → Option Fault
+failed_or Broken kind other = Some kind
+failed_or Done kind other = other
+failed_or Overlong kind other = other
+
+-- the kind of the first of these calls that failed
+abbrev pub first_failed : List Moment → Option Fault
+first_failed [] = None
+first_failed (m ∷ ms) = failed_or m.end (kind_of m.call) (first_failed ms)
+
+-- the kind of the last of these calls, where that one failed
+abbrev pub last_failed : List Moment → Option Fault
+last_failed [] = None
+last_failed (m ∷ []) = failed_or m.end (kind_of m.call) None
+last_failed (m ∷ n ∷ ms) = last_failed (n ∷ ms)
+
+-- the kind of the first call since old that failed
+abbrev pub failed_since : Past → Past → Option Fault
+failed_since old new = first_failed (made old new)
+
+-- where told: no call since old failed; or the last one alone did, and is of this kind
+pub record Fails (tells : Bool) (old new : Past) (kind : Option Fault) : Type 0 where
+  pub grows : IsTrue tells → Grows old new
+  pub first : IsTrue tells → failed_since old new ≡ kind
+  pub last : IsTrue tells → last_failed (made old new) ≡ kind
+
+-- the past of a machine that tells none
+abbrev pub nothing_told : World → Past
+nothing_told w = record { first = w; moments = [] }
+
+-- the past as it was after t moments
+abbrev pub until : ℕ → Past → Past
+until t p = record p { moments = take t p.moments }
+
+-- a stop since moment t may have left v
+abbrev pub HeldSince : ℕ → Past → World → Type 0
+HeldSince t p v = Held (until t p) p v
+
+-- held since t0 is held since a moment t1 between t0 and now, or held since t0 as of t1
+abbrev pub HeldJoins : Type 0
+HeldJoins =
+    (p : Past) (t0 t1 : ℕ) (v : World) → t0 ≤ t1 → t1 ≤ length p.moments
+    → (HeldSince t0 p v → HeldSince t1 p v ⊎ HeldSince t0 (until t1 p) v) × (HeldSince t1 p v ⊎ HeldSince t0 (until t1 p) v → HeldSince t0 p v)

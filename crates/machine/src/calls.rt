@@ -1,0 +1,79 @@
+ghost use Rattle.std.specs.Prelude.{◌≡◌, ◌+◌, ℕ, Bool, length, IsTrue, IfOk};
+ghost use Rattle.std.specs.Result.{result_unwrap_or};
+ghost use Rattle.machine.specs.World.{file, readable, size_of, written};
+ghost use Rattle.machine.specs.Past.{Past, Read, Size, Sync, Write, now};
+ghost use Rattle.machine.specs.Calls.{Counted, Ends, FileCounted, FileEnds, HasRoom, IsLong, ReadSome, ReadsFile};
+
+use std::alloc::Global;
+use updater_text::Items;
+
+/// Why a call gave no value: it failed, or memory was wanting and nothing was done.
+#[derive(Clone, Copy, Debug, PartialEq, Eq)]
+pub enum CallStop {
+    Failed,
+    NoMemory,
+}
+
+/// Why a file was not read: the call failed, the file is longer than asked for (`length` bytes), or
+/// memory was wanting.
+#[derive(Clone, Copy, Debug, PartialEq, Eq)]
+pub enum ReadStop {
+    Failed,
+    TooLong { length: u64 },
+    NoMemory,
+}
+
+/// The calls through which the updater reaches the outside, one read, write or sync each. A machine
+/// may tell its world and its past; what a call does to them, and the worlds in which the power may
+/// stop inside it, are its contract.
+pub trait Machine {
+    /// Whether it tells its world and its past. It is of the type, so nothing changes it.
+    ghost tells: { Bool };
+
+    /// Its past, where it tells it.
+    ghost past: { Self → Past };
+
+    /// How often a call has failed.
+    ghost faults: { Self → ℕ };
+
+    /// How often a call has wanted memory.
+    ghost wants: { Self → ℕ };
+
+    /// The bytes of a file of at most `limit` bytes; None where there is no file. `TooLong` comes
+    /// exactly where it is longer.
+    fn file_read(
+        &mut self,
+        alloc: Global,
+        path: &str,
+        limit: u64,
+    ) -> Result<Option<Items<u8>>, ReadStop>
+        ensures past { IsTrue tells → FileEnds (past self.old) (past self.new) path.now result }
+        ensures counts { FileCounted (faults self.old) (faults self.new) (wants self.old) (wants self.new) result }
+        ensures answer { ReadsFile tells (file (now (past self.old)) path.now) limit result };
+
+    /// The length in bytes of the disk or, where `disk` is false, of the disk or file; None where
+    /// there is none. It is below 2^63.
+    fn size(&mut self, path: &str, disk: bool) -> Result<Option<u64>, CallStop>
+        ensures past { IsTrue tells → Ends (past self.old) (past self.new) (Size path.now) result }
+        ensures counts { Counted (faults self.old) (faults self.new) (wants self.old) (wants self.new) result }
+        ensures answer { IfOk result (IsLong tells (size_of (now (past self.old)) path.now disk)) };
+
+    /// Reads bytes of a disk or file from byte `at` on into the front of `into`, and answers how
+    /// many: 0 only at the end or for an empty `into`. A path that names nothing counts as empty.
+    fn read_at(&mut self, path: &str, at: u64, into: &mut [u8]) -> Result<usize, CallStop>
+        ensures past { IsTrue tells → Ends (past self.old) (past self.new) (Read path.now (result_unwrap_or result 0)) result }
+        ensures counts { Counted (faults self.old) (faults self.new) (wants self.old) (wants self.new) result }
+        ensures answer { IfOk result (ReadSome tells (readable (now (past self.old)) path.now) at into.old into.new) };
+
+    /// Writes the bytes to a disk from byte `at` on. They are pending until a `sync`.
+    fn write_at(&mut self, path: &str, at: u64, from: &[u8]) -> Result<(), CallStop>
+        requires { HasRoom tells (past self.old) path.now (at + length from.now) }
+        ensures past { IsTrue tells → Ends (past self.old) (past self.new) (Write path.now at (length from.now)) result }
+        ensures counts { Counted (faults self.old) (faults self.new) (wants self.old) (wants self.new) result }
+        ensures answer { IsTrue tells → IfOk result (λ _. now (past self.new) ≡ written (now (past self.old)) path.now at from.now) };
+
+    /// Makes what was written to a disk last through a crash.
+    fn sync(&mut self, path: &str) -> Result<(), CallStop>
+        ensures past { IsTrue tells → Ends (past self.old) (past self.new) (Sync path.now) result }
+        ensures counts { Counted (faults self.old) (faults self.new) (wants self.old) (wants self.new) result };
+}

@@ -1,0 +1,13 @@
+//! The machine as the updater sees it: disks, files, boot variables and children, the calls on them,
+//! and what a stop of the power may leave of it.
+#![tactic(auto)]
+
+mod calls;
+mod law;
+mod reads;
+mod world;
+
+pub use calls::{CallStop, Machine, ReadStop};
+pub use law::held_joins;
+pub use reads::fill;
+pub use world::{Child, ChildClass, Ended, EnvVar, Exit, Named, RunNote, Span, Spares, World};
