@@ -1,5 +1,6 @@
 -- Writes in one range of one disk: they compose, and each call on the range keeps them.
-use Rattle.std.proofs.Common.{◌≡◌, ◌≢◌, inl, inr, ⊎_elim, ℕ, ◌+◌, ◌≤◌, ◌<◌, Bool, List, [], ◌∷◌, ◌++◌, length, Option, Some, None, refl, sym, ◌∙◌, ap, subst, arith, append_assoc, IsTrue}
+use Rattle.std.proofs.Common.{◌≡◌, ◌≢◌, inl, inr, ⊎_elim, ℕ, ◌+◌, ◌≤◌, ◌<◌, Bool, true, false, List, [], ◌∷◌, ◌++◌, length, Option, Some, None, refl, sym, ◌∙◌, ap, subst, arith, append_assoc, IsTrue}
+use Rattle.std.proofs.lemmas.Bool.{true≢false}
 use Rattle.std.proofs.lemmas.List.{append-nil}
 use Rattle.std.specs.Prelude.{bytes_eq, not, slice_get, Result}
 use Rattle.std.specs.Option.{option_map, option_and_then}
@@ -7,10 +8,11 @@ use Rattle.machine.specs.declared.world.Span.{Span}
 use Rattle.machine.specs.declared.world.World.{World}
 use Rattle.machine.specs.declared.calls.CallStop.{CallStop}
 use Rattle.machine.specs.World.{disk, disk_byte, disk_length, readable, patched, written, synced, Holds}
+use Rattle.machine.specs.Crash.{Crash, is_in}
 use Rattle.machine.specs.Past.{Scribbled, Sync, Write, End, Done, Broken, Overlong, After, Past, now}
 use Rattle.machine.specs.Calls.{Ends, HasRoom}
-use Rattle.machine.specs.Frames.{InRange, IsRead, OnlyIn, OnlyReads, OnlyWrites}
-use Rattle.machine.proofs.Moments.{always_joins, always_now, always_weaker, always_ends}
+use Rattle.machine.specs.Frames.{HeldIn, InRange, IsRead, LeftIn, OnlyIn, OnlyReads, OnlyWrites}
+use Rattle.machine.proofs.Moments.{always_joins, always_now, always_weaker, always_ends, held_of}
 use Rattle.machine.proofs.Worlds.{bytes_under-patch_same, bytes_under-patch_other, by_path, byte-patched, length-patched, is_in_one, is_in-append, is_in-filter, same_disk}
 
 pub only_refl : (device : List ℕ) (from to : ℕ) (w : World) → OnlyIn device from to w w
@@ -185,6 +187,9 @@ room_writes t device from to a b path end writes has = record {
   room = λ told. holds_only device from to (now a) (now b) path end (always_now a b (OnlyIn device from to (now a)) (writes.all told)) (has.room told);
 }
 
+pub room_less : (t : Bool) (a : Past) (path : List ℕ) (end end' : ℕ) → end' ≤ end → HasRoom t a path end → HasRoom t a path end'
+room_less t a path end end' le has = record { room = λ told. let h = has.room told in (h.0, h.1, omega (arith, h.2, le)) }
+
 -- what is under another path stays
 pub disk_only : (device : List ℕ) (from to : ℕ) (u v : World) (path : List ℕ) → path ≢ device → OnlyIn device from to u v → disk v path ≡ disk u path
 disk_only device from to u v path ne only = same_disk (disk v path) (disk u path) (only.lengths path) (λ i. only.bytes path i (λ r. ne r.0))
@@ -192,3 +197,27 @@ disk_only device from to u v path ne only = same_disk (disk v path) (disk u path
 pub readable_only : (device : List ℕ) (from to : ℕ) (u v : World) (path : List ℕ) → path ≢ device → OnlyIn device from to u v → readable v path ≡ readable u path
 unfolding readable
 readable_only device from to u v path ne only = rw (disk_only device from to u v path ne only, only.files) refl
+
+-- what a stop leaves
+not_pending : (old u : World) (path : List ℕ) (i : ℕ) → is_in old.pending path i ≡ false → ((is_in u.pending path i ≡ true) → is_in old.pending path i ≡ true) → is_in u.pending path i ≡ false
+not_pending old u path i free was =
+    elim (is_in u.pending path i) as (λ b. is_in u.pending path i ≡ b → is_in u.pending path i ≡ false) [
+      | true ↦ λ e. absurd (true≢false (sym (was e) ∙ free))
+      | false ↦ λ e. e
+    ] refl
+
+pub left_only : (device : List ℕ) (from to : ℕ) (old u v : World) → OnlyIn device from to old u → Crash u v → LeftIn device from to old v
+left_only device from to old u v only crash = record {
+  files = crash.files ∙ only.files;
+  vars = crash.vars ∙ only.vars;
+  runs = crash.runs ∙ only.runs;
+  lengths = λ path. crash.lengths path ∙ only.lengths path;
+  bytes = λ path i free settled.
+      crash.bytes path i (not_pending old u path i settled (λ h. ⊎_elim (λ e. e) (λ r. absurd (free r)) (only.pending path i h)))
+      ∙ only.bytes path i free;
+}
+
+pub held_writes : (t : Bool) (device : List ℕ) (from to : ℕ) (a b : Past) → OnlyWrites t device from to a b → HeldIn t device from to a b
+held_writes t device from to a b writes = record {
+  each = λ told v held. held_of a b (OnlyIn device from to (now a)) (LeftIn device from to (now a)) (writes.all told) (λ u v only crash. left_only device from to (now a) u v only crash) v held;
+}

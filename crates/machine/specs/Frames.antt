@@ -1,10 +1,10 @@
 -- What calls leave alone: relations from the world before to each world since.
-use Rattle.std.specs.Prelude.{◌≡◌, ◌≤◌, ◌<◌, ◌⊎◌, ◌++◌, ℕ, Bool, true, IsTrue, List}
+use Rattle.std.specs.Prelude.{◌≡◌, ◌≤◌, ◌<◌, ◌⊎◌, ◌++◌, ℕ, Bool, true, false, IsTrue, List}
 use Rattle.machine.specs.declared.world.Span.{Span}
 use Rattle.machine.specs.declared.world.World.{World}
 use Rattle.machine.specs.World.{disk_byte, disk_length}
 use Rattle.machine.specs.Crash.{is_in}
-use Rattle.machine.specs.Past.{Past, now, Always}
+use Rattle.machine.specs.Past.{Past, now, Always, Held}
 
 -- w is old after reads
 pub record IsRead (old w : World) : Type 0 where
@@ -33,3 +33,15 @@ pub record OnlyReads (tells : Bool) (old new : Past) : Type 0 where
 -- where told: at each moment since, inside the calls too, only this range was written
 pub record OnlyWrites (tells : Bool) (device : List ℕ) (from to : ℕ) (old new : Past) : Type 0 where
   pub all : IsTrue tells → Always old new (OnlyIn device from to (now old))
+
+-- v, which a stop left, is old but for a range of one disk, and for bytes that were pending in old
+pub record LeftIn (device : List ℕ) (from to : ℕ) (old v : World) : Type 0 where
+  pub files : v.files ≡ old.files
+  pub vars : v.vars ≡ old.vars
+  pub runs : v.runs ≡ old.runs
+  pub lengths : (path : List ℕ) → disk_length v path ≡ disk_length old path
+  pub bytes : (path : List ℕ) (i : ℕ) → (InRange device from to path i → ⊥) → is_in old.pending path i ≡ false → disk_byte v path i ≡ disk_byte old path i
+
+-- where told: whatever a stop since may have left, only this range differs
+pub record HeldIn (tells : Bool) (device : List ℕ) (from to : ℕ) (old new : Past) : Type 0 where
+  pub each : IsTrue tells → (v : World) → Held old new v → LeftIn device from to (now old) v

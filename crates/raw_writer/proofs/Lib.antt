@@ -1,0 +1,4 @@
+pub mod Checks
+pub mod Pieces
+pub mod Copied
+pub mod Stopping

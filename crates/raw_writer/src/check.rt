@@ -1,0 +1,148 @@
+ghost use Rattle.std.specs.Prelude.{◌≡◌, IfOk, IsTrue};
+ghost use Rattle.std.specs.Option.{option_map};
+ghost use Rattle.machine.specs.World.{size_of};
+ghost use Rattle.machine.specs.Past.{Fails, now};
+ghost use Rattle.machine.specs.Frames.{OnlyReads};
+ghost use Rattle.machine.specs.Stops.{Settles, StopCounted, stop_fault};
+ghost use Rattle.raw_writer.specs.Checking.{check_of, device_for, fits, found, room_for, stated_for};
+
+use machine::{CallStop, Machine};
+use std::alloc::Global;
+use updater_text::{Fault, Stop, Text};
+
+/// Why an image is not put on a device. Lengths are in bytes.
+#[derive(Debug, Drop)]
+pub enum PutRefusal {
+    NoImage { path: Text },
+    ImageSize { stated: u64, found: u64 },
+    NoDevice { path: Text },
+    ImageTooLarge { size: u64, device: u64 },
+}
+
+// The length of what is under the path.
+fn size_under<M: Machine>(
+    m: &mut M,
+    path: &str,
+    disk: bool,
+) -> Result<Option<u64>, Stop<PutRefusal>>
+    ensures reads { OnlyReads M.tells (M.past m.old) (M.past m.new) }
+    ensures answers { IsTrue M.tells → Settles result (found (size_of (now (M.past m.old)) path.now disk)) }
+    ensures fails { Fails M.tells (M.past m.old) (M.past m.new) (stop_fault result) }
+    ensures counts { StopCounted (M.faults m.old) (M.faults m.new) (M.wants m.old) (M.wants m.new) result }
+{
+    match m.size(path, disk) {
+        Ok(size) => Ok(size),
+        Err(CallStop::Failed) => Err(Stop::Outside(Fault::Size)),
+        Err(CallStop::NoMemory) => Err(Stop::NoMemory),
+    }
+}
+
+// The size, where a device of this length, or None for no device, has room for it.
+fn fits(alloc: Global, device: &str, size: u64, room: Option<u64>) -> Result<u64, Stop<PutRefusal>>
+    ensures { Settles result (fits device.now size room) × (stop_fault result ≡ None) }
+{
+    match room {
+        Some(room) => {
+            if size <= room {
+                Ok(size)
+            } else {
+                Err(Stop::Refused(PutRefusal::ImageTooLarge { size, device: room }))
+            }
+        }
+        None => match Text::new(alloc, device) {
+            Ok(path) => Err(Stop::Refused(PutRefusal::NoDevice { path })),
+            Err(_) => Err(Stop::NoMemory),
+        },
+    }
+}
+
+// The size, where it fits the device.
+#[tactic(auto, using(machine::proofs::Joins::reads_join, machine::proofs::Failing::fails_join))]
+fn check_room<M: Machine>(
+    alloc: Global,
+    m: &mut M,
+    device: &str,
+    size: u64,
+) -> Result<u64, Stop<PutRefusal>>
+    ensures reads { OnlyReads M.tells (M.past m.old) (M.past m.new) }
+    ensures answers { IsTrue M.tells → Settles result (room_for (now (M.past m.old)) device.now size) }
+    ensures fails { Fails M.tells (M.past m.old) (M.past m.new) (stop_fault result) }
+    ensures counts { StopCounted (M.faults m.old) (M.faults m.new) (M.wants m.old) (M.wants m.new) result }
+{
+    match size_under(m, device, true) {
+        Ok(room) => fits(alloc, device, size, room),
+        Err(stop) => Err(stop),
+    }
+}
+
+// The size, where it fits the device that is named, if any.
+fn check_device<M: Machine>(
+    alloc: Global,
+    m: &mut M,
+    device: Option<&str>,
+    size: u64,
+) -> Result<u64, Stop<PutRefusal>>
+    ensures reads { OnlyReads M.tells (M.past m.old) (M.past m.new) }
+    ensures answers { IsTrue M.tells → Settles result (device_for (now (M.past m.old)) (option_map (λ d. d.now) device.entry) size) }
+    ensures fails { Fails M.tells (M.past m.old) (M.past m.new) (stop_fault result) }
+    ensures counts { StopCounted (M.faults m.old) (M.faults m.new) (M.wants m.old) (M.wants m.new) result }
+{
+    match device {
+        Some(device) => check_room(alloc, m, device, size),
+        None => Ok(size),
+    }
+}
+
+// The size, where it is the stated one, if one is stated, and fits the device.
+fn check_stated<M: Machine>(
+    alloc: Global,
+    m: &mut M,
+    stated: Option<u64>,
+    device: Option<&str>,
+    size: u64,
+) -> Result<u64, Stop<PutRefusal>>
+    ensures reads { OnlyReads M.tells (M.past m.old) (M.past m.new) }
+    ensures answers { IsTrue M.tells → Settles result (stated_for (now (M.past m.old)) stated (option_map (λ d. d.now) device.entry) size) }
+    ensures fails { Fails M.tells (M.past m.old) (M.past m.new) (stop_fault result) }
+    ensures counts { StopCounted (M.faults m.old) (M.faults m.new) (M.wants m.old) (M.wants m.new) result }
+{
+    match stated {
+        Some(stated) => {
+            if stated == size {
+                check_device(alloc, m, device, size)
+            } else {
+                Err(Stop::Refused(PutRefusal::ImageSize {
+                    stated,
+                    found: size,
+                }))
+            }
+        }
+        None => check_device(alloc, m, device, size),
+    }
+}
+
+/// The length of an image in bytes. In this order: `NoImage` where its path names nothing,
+/// `ImageSize` where a stated size differs from its length, `NoDevice` where a device is named and is
+/// no disk, `ImageTooLarge` where the image is longer than that device.
+#[tactic(auto, using(machine::proofs::Joins::reads_join, machine::proofs::Failing::fails_join))]
+pub fn check_image<M: Machine>(
+    alloc: Global,
+    m: &mut M,
+    image: &str,
+    size: Option<u64>,
+    device: Option<&str>,
+) -> Result<u64, Stop<PutRefusal>>
+    ensures reads { OnlyReads M.tells (M.past m.old) (M.past m.new) }
+    ensures answers { IsTrue M.tells → Settles result (check_of (now (M.past m.old)) image.now size (option_map (λ d. d.now) device.entry)) }
+    ensures fails { Fails M.tells (M.past m.old) (M.past m.new) (stop_fault result) }
+    ensures counts { StopCounted (M.faults m.old) (M.faults m.new) (M.wants m.old) (M.wants m.new) result }
+{
+    match size_under(m, image, false) {
+        Ok(Some(found)) => check_stated(alloc, m, size, device, found),
+        Ok(None) => match Text::new(alloc, image) {
+            Ok(path) => Err(Stop::Refused(PutRefusal::NoImage { path })),
+            Err(_) => Err(Stop::NoMemory),
+        },
+        Err(stop) => Err(stop),
+    }
+}
