@@ -1,4 +1,5 @@
 ghost use Rattle.std.specs.Prelude.{◌≡◌, [], IfOk, OnErr, length, option_copied, option_map, slice_get};
+ghost use Rattle.std.specs.Option.{option_map_or};
 ghost use Rattle.keyfile.specs.Groups.{Became, entry_at, get_in, with_entry, with_group};
 
 use indexmap::IndexMap;
@@ -57,6 +58,16 @@ impl KeyFile {
     {
         let (name, _) = self.groups.get_index(at)?;
         Some(name.as_str())
+    }
+
+    /// How many keys the group at a place has, counted from 0; 0 where there is no such group.
+    pub fn keys(&self, group: usize) -> usize
+        ensures { result ≡ option_map_or (λ g. length g.1) (slice_get self.now group) 0 }
+    {
+        match self.groups.get_index(group) {
+            Some((_, entries)) => entries.len(),
+            None => 0,
+        }
     }
 
     /// The key at a place of the group at a place, both counted from 0; None where there is none.

@@ -33,6 +33,10 @@ last_failed-append ms (n ∷ ns) e = last_failed-some ms n ns
 pub fails_none : (t : Bool) (a : Past) → Fails t a a None
 fails_none t a = record { grows = λ told. grows_refl a; first = λ told. ap first_failed (made_none a); last = λ told. ap last_failed (made_none a) }
 
+-- what failed since a moment, where nothing failed before
+pub failed_joins : (a b c : Past) → Grows a b → Grows b c → failed_since a b ≡ None → failed_since a c ≡ failed_since b c
+failed_joins a b c ab bc none = ap first_failed (made_joins a b c ab bc) ∙ first_failed-append (made a b) (made b c) none
+
 -- one run after another
 pub fails_join : (t : Bool) (a b c : Past) (kind : Option Fault) → Fails t a b None → Fails t b c kind → Fails t a c kind
 fails_join t a b c kind ab bc = record {

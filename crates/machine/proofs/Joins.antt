@@ -6,7 +6,7 @@ use Rattle.machine.specs.declared.calls.ReadStop.{ReadStop}
 use Rattle.machine.specs.declared.calls.ReadStop.TheVariants as read
 use Rattle.machine.specs.Past.{Size, File, End, Done, Broken, Overlong, After, Past, now, Always, Did}
 use Rattle.machine.specs.Calls.{Ends, FileEnds}
-use Rattle.machine.specs.Frames.{IsRead, OnlyReads}
+use Rattle.machine.specs.Frames.{IsRead, OnlyReads, Unchanged}
 use Rattle.machine.proofs.Moments.{always_start, always_joins, always_now, always_weaker, always_did, always_ends}
 
 pub is_read_refl : (w : World) → IsRead w w
@@ -31,39 +31,48 @@ reads_join t a b c ab bc = record {
       always_joins a b c (IsRead (now a)) left (always_weaker b c (IsRead (now b)) (IsRead (now a)) (λ u h. is_read_trans (now a) (now b) u (always_now a b (IsRead (now a)) left) h) (bc.all told));
 }
 
-size_after : (path : List ℕ) (w : World) (end : End) (v : World) → After (Size path) end w v → IsRead w v
-size_after path w Done v h = is_read_same w v h
-size_after path w Broken v h = is_read_same w v h
-size_after path w Overlong v h = is_read_same w v h
+-- nothing changed
+pub unchanged_none : (t : Bool) (a : Past) → Unchanged t a a
+unchanged_none t a = record { all = λ told. always_start a (λ u. u ≡ now a) refl }
 
--- the asking of a length
-pub reads_size : {T : Type 0} (t : Bool) (a b : Past) (path : List ℕ) (result : Result T CallStop) → (IsTrue t → Ends a b (Size path) result) → OnlyReads t a b
-reads_size t a b path result ends = record {
-  all = λ told. always_ends a b (Size path) (IsRead (now a)) result (ends told) (is_read_refl (now a)) (λ u h. is_read_same (now a) u h) (λ end v h. size_after path (now a) end v h);
+pub unchanged_join : (t : Bool) (a b c : Past) → Unchanged t a b → Unchanged t b c → Unchanged t a c
+unchanged_join t a b c ab bc = record {
+  all = λ told.
+      let left = ab.all told in
+      always_joins a b c (λ u. u ≡ now a) left (always_weaker b c (λ u. u ≡ now b) (λ u. u ≡ now a) (λ u h. h ∙ always_now a b (λ u. u ≡ now a) left) (bc.all told));
 }
 
--- the reading of a whole file leaves the world as it was
+pub now_unchanged : (t : Bool) (a b : Past) → Unchanged t a b → IsTrue t → now b ≡ now a
+now_unchanged t a b ab told = always_now a b (λ u. u ≡ now a) (ab.all told)
+
+pub reads_unchanged : (t : Bool) (a b : Past) → Unchanged t a b → OnlyReads t a b
+reads_unchanged t a b ab = record { all = λ told. always_weaker a b (λ u. u ≡ now a) (IsRead (now a)) (λ u h. is_read_same (now a) u h) (ab.all told) }
+
+size_after : (path : List ℕ) (w : World) (end : End) (v : World) → After (Size path) end w v → v ≡ w
+size_after path w Done v h = h
+size_after path w Broken v h = h
+size_after path w Overlong v h = h
+
+-- the asking of a length
+pub unchanged_size : {T : Type 0} (t : Bool) (a b : Past) (path : List ℕ) (result : Result T CallStop) → (IsTrue t → Ends a b (Size path) result) → Unchanged t a b
+unchanged_size t a b path result ends = record {
+  all = λ told. always_ends a b (Size path) (λ u. u ≡ now a) result (ends told) refl (λ u h. h) (λ end v h. size_after path (now a) end v h);
+}
+
+-- the reading of a whole file
 file_after : (path : List ℕ) (w : World) (end : End) (v : World) → After (File path) end w v → v ≡ w
 file_after path w Done v h = h
 file_after path w Broken v h = h
 file_after path w Overlong v h = h
 
-file_did : (a b : Past) (path : List ℕ) (end : End) → Did a b (File path) end → (now b ≡ now a) × Always a b (IsRead (now a))
-file_did a b path end did =
-    let same = file_after path (now a) end (now b) did.after in
-    (same, always_did a b (File path) end (IsRead (now a)) did (is_read_refl (now a)) (λ u h. is_read_same (now a) u h) (is_read_same (now a) (now b) same))
+file_did : (a b : Past) (path : List ℕ) (end : End) → Did a b (File path) end → Always a b (λ u. u ≡ now a)
+file_did a b path end did = always_did a b (File path) end (λ u. u ≡ now a) did refl (λ u h. h) (file_after path (now a) end (now b) did.after)
 
-file_same : (a b : Past) → b ≡ a → (now b ≡ now a) × Always a b (IsRead (now a))
-file_same a b e = (ap now e, subst (λ (q : Past). Always a q (IsRead (now a))) (sym e) (always_start a (IsRead (now a)) (is_read_refl (now a))))
-
-file_leaves : {T : Type 0} (a b : Past) (path : List ℕ) (result : Result T ReadStop) → FileEnds a b path result → (now b ≡ now a) × Always a b (IsRead (now a))
+file_leaves : {T : Type 0} (a b : Past) (path : List ℕ) (result : Result T ReadStop) → FileEnds a b path result → Always a b (λ u. u ≡ now a)
 file_leaves a b path (Ok x) did = file_did a b path Done did
 file_leaves a b path (Err read.Failed) did = file_did a b path Broken did
 file_leaves a b path (Err (read.TooLong n)) did = file_did a b path Overlong did
-file_leaves a b path (Err read.NoMemory) same = file_same a b same
+file_leaves a b path (Err read.NoMemory) same = subst (λ (q : Past). Always a q (λ u. u ≡ now a)) (sym same) (always_start a (λ u. u ≡ now a) refl)
 
-pub now_file : {T : Type 0} (a b : Past) (path : List ℕ) (result : Result T ReadStop) → FileEnds a b path result → now b ≡ now a
-now_file a b path result ends = (file_leaves a b path result ends).0
-
-pub reads_file : {T : Type 0} (t : Bool) (a b : Past) (path : List ℕ) (result : Result T ReadStop) → (IsTrue t → FileEnds a b path result) → OnlyReads t a b
-reads_file t a b path result ends = record { all = λ told. (file_leaves a b path result (ends told)).1 }
+pub unchanged_file : {T : Type 0} (t : Bool) (a b : Past) (path : List ℕ) (result : Result T ReadStop) → (IsTrue t → FileEnds a b path result) → Unchanged t a b
+unchanged_file t a b path result ends = record { all = λ told. file_leaves a b path result (ends told) }

@@ -26,6 +26,10 @@ pub record OnlyIn (device : List ℕ) (from to : ℕ) (old w : World) : Type 0 w
   pub writes : (spans : List Span) × (w.writes ≡ old.writes ++ spans)
   pub fetched : old.fetched ≤ w.fetched
 
+-- where told: at each moment since, inside the calls too, the world was as before
+pub record Unchanged (tells : Bool) (old new : Past) : Type 0 where
+  pub all : IsTrue tells → Always old new (λ u. u ≡ now old)
+
 -- where told: at each moment since, inside the calls too, only reads were done
 pub record OnlyReads (tells : Bool) (old new : Past) : Type 0 where
   pub all : IsTrue tells → Always old new (IsRead (now old))

@@ -4,18 +4,17 @@ use Rattle.std.specs.Option.{option_map}
 use Rattle.std.proofs.lemmas.Bool.Decides.{nat_tests}
 use Rattle.machine.specs.declared.world.World.{World}
 use Rattle.machine.specs.World.{size_of, disk_length, disk, file, readable, Holds}
-use Rattle.machine.specs.Frames.{IsRead}
 use Rattle.machine.specs.Stops.{Settles}
 use Rattle.updater_text.specs.declared.stops.Stop.{Stop}
 use Rattle.raw_writer.specs.declared.check.PutRefusal.{PutRefusal}
 use Rattle.raw_writer.specs.declared.check.PutRefusal.TheVariants.{ImageTooLarge}
 use Rattle.raw_writer.specs.Checking.{check_of, fits, image_for, stated_for}
 
--- reads do not change what a check finds
-pub image_settled : (w v : World) (image : List ℕ) (stated : Option ℕ) (device : Option (List ℕ)) (size : ℕ) (result : Result ℕ (Stop PutRefusal)) → IsRead w v → size_of w image false ≡ Some size → Settles result (stated_for v stated device size) → Settles result (check_of w image stated device)
-image_settled w v image stated device size result reads is settled =
+-- what a check finds, where nothing changed on the way
+pub image_settled : (w v : World) (image : List ℕ) (stated : Option ℕ) (device : Option (List ℕ)) (size : ℕ) (result : Result ℕ (Stop PutRefusal)) → v ≡ w → size_of w image false ≡ Some size → Settles result (stated_for v stated device size) → Settles result (check_of w image stated device)
+image_settled w v image stated device size result same is settled =
     subst (λ (p : Result ℕ PutRefusal). Settles result p)
-    (ap (λ (x : World). stated_for x stated device size) reads.same ∙ sym (ap (λ (o : Option ℕ). image_for w image stated device o) is))
+    (ap (λ (x : World). stated_for x stated device size) same ∙ sym (ap (λ (o : Option ℕ). image_for w image stated device o) is))
     settled
 
 pub fits_ok : (device : List ℕ) (size room : ℕ) → size ≤ room → fits device size (Some room) ≡ Ok size

@@ -2,7 +2,7 @@ ghost use Rattle.std.specs.Prelude.{◌≡◌, IfOk, IsTrue};
 ghost use Rattle.std.specs.Option.{option_map};
 ghost use Rattle.machine.specs.World.{size_of};
 ghost use Rattle.machine.specs.Past.{Fails, now};
-ghost use Rattle.machine.specs.Frames.{OnlyReads};
+ghost use Rattle.machine.specs.Frames.{Unchanged};
 ghost use Rattle.machine.specs.Stops.{Settles, StopCounted, stop_fault};
 ghost use Rattle.raw_writer.specs.Checking.{check_of, device_for, fits, found, room_for, stated_for};
 
@@ -25,7 +25,7 @@ fn size_under<M: Machine>(
     path: &str,
     disk: bool,
 ) -> Result<Option<u64>, Stop<PutRefusal>>
-    ensures reads { OnlyReads M.tells (M.past m.old) (M.past m.new) }
+    ensures unchanged { Unchanged M.tells (M.past m.old) (M.past m.new) }
     ensures answers { IsTrue M.tells → Settles result (found (size_of (now (M.past m.old)) path.now disk)) }
     ensures fails { Fails M.tells (M.past m.old) (M.past m.new) (stop_fault result) }
     ensures counts { StopCounted (M.faults m.old) (M.faults m.new) (M.wants m.old) (M.wants m.new) result }
@@ -57,14 +57,14 @@ fn fits(alloc: Global, device: &str, size: u64, room: Option<u64>) -> Result<u64
 }
 
 // The size, where it fits the device.
-#[tactic(auto, using(machine::proofs::Joins::reads_join, machine::proofs::Failing::fails_join))]
+#[tactic(auto, using(machine::proofs::Joins::unchanged_join, machine::proofs::Failing::fails_join))]
 fn check_room<M: Machine>(
     alloc: Global,
     m: &mut M,
     device: &str,
     size: u64,
 ) -> Result<u64, Stop<PutRefusal>>
-    ensures reads { OnlyReads M.tells (M.past m.old) (M.past m.new) }
+    ensures unchanged { Unchanged M.tells (M.past m.old) (M.past m.new) }
     ensures answers { IsTrue M.tells → Settles result (room_for (now (M.past m.old)) device.now size) }
     ensures fails { Fails M.tells (M.past m.old) (M.past m.new) (stop_fault result) }
     ensures counts { StopCounted (M.faults m.old) (M.faults m.new) (M.wants m.old) (M.wants m.new) result }
@@ -82,7 +82,7 @@ fn check_device<M: Machine>(
     device: Option<&str>,
     size: u64,
 ) -> Result<u64, Stop<PutRefusal>>
-    ensures reads { OnlyReads M.tells (M.past m.old) (M.past m.new) }
+    ensures unchanged { Unchanged M.tells (M.past m.old) (M.past m.new) }
     ensures answers { IsTrue M.tells → Settles result (device_for (now (M.past m.old)) (option_map (λ d. d.now) device.entry) size) }
     ensures fails { Fails M.tells (M.past m.old) (M.past m.new) (stop_fault result) }
     ensures counts { StopCounted (M.faults m.old) (M.faults m.new) (M.wants m.old) (M.wants m.new) result }
@@ -101,7 +101,7 @@ fn check_stated<M: Machine>(
     device: Option<&str>,
     size: u64,
 ) -> Result<u64, Stop<PutRefusal>>
-    ensures reads { OnlyReads M.tells (M.past m.old) (M.past m.new) }
+    ensures unchanged { Unchanged M.tells (M.past m.old) (M.past m.new) }
     ensures answers { IsTrue M.tells → Settles result (stated_for (now (M.past m.old)) stated (option_map (λ d. d.now) device.entry) size) }
     ensures fails { Fails M.tells (M.past m.old) (M.past m.new) (stop_fault result) }
     ensures counts { StopCounted (M.faults m.old) (M.faults m.new) (M.wants m.old) (M.wants m.new) result }
@@ -124,7 +124,7 @@ fn check_stated<M: Machine>(
 /// The length of an image in bytes. In this order: `NoImage` where its path names nothing,
 /// `ImageSize` where a stated size differs from its length, `NoDevice` where a device is named and is
 /// no disk, `ImageTooLarge` where the image is longer than that device.
-#[tactic(auto, using(machine::proofs::Joins::reads_join, machine::proofs::Failing::fails_join))]
+#[tactic(auto, using(machine::proofs::Joins::unchanged_join, machine::proofs::Failing::fails_join))]
 pub fn check_image<M: Machine>(
     alloc: Global,
     m: &mut M,
@@ -132,7 +132,7 @@ pub fn check_image<M: Machine>(
     size: Option<u64>,
     device: Option<&str>,
 ) -> Result<u64, Stop<PutRefusal>>
-    ensures reads { OnlyReads M.tells (M.past m.old) (M.past m.new) }
+    ensures unchanged { Unchanged M.tells (M.past m.old) (M.past m.new) }
     ensures answers { IsTrue M.tells → Settles result (check_of (now (M.past m.old)) image.now size (option_map (λ d. d.now) device.entry)) }
     ensures fails { Fails M.tells (M.past m.old) (M.past m.new) (stop_fault result) }
     ensures counts { StopCounted (M.faults m.old) (M.faults m.new) (M.wants m.old) (M.wants m.new) result }

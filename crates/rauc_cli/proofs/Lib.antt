@@ -1,0 +1,5 @@
+pub mod Ending
+pub mod Firsts
+pub mod Lookups
+pub mod Putting
+pub mod Stopping

@@ -1,0 +1,6 @@
+pub mod Conf
+pub mod Ends
+pub mod Lines
+pub mod Plans
+pub mod Slots
+pub mod Words

@@ -1,0 +1,118 @@
+-- What is put on standard output and standard error, and the exit status.
+use Rattle.std.specs.Prelude.{ℕ, Bool, true, false, List, [], ◌++◌, ◌==◌, codes, decimal, length, if◌then◌else◌}
+use Rattle.hex.specs.Hex.{encode_lower}
+use Rattle.updater_text.specs.declared.stops.Fault.{Fault}
+use Rattle.updater_text.specs.declared.stops.Fault.TheVariants as fault
+use Rattle.keyfile.specs.declared.reading.KeyFault.{KeyFault}
+use Rattle.keyfile.specs.declared.reading.KeyFault.TheVariants as key
+use Rattle.raw_writer.specs.declared.check.PutRefusal.{PutRefusal}
+use Rattle.raw_writer.specs.declared.check.PutRefusal.TheVariants as put
+use Rattle.rauc_cli.specs.declared.command.Command.{Command}
+use Rattle.rauc_cli.specs.declared.command.Command.TheVariants as command
+use Rattle.rauc_cli.specs.declared.conf.BadConf.{BadConf}
+use Rattle.rauc_cli.specs.declared.conf.BadConf.TheVariants as bad
+use Rattle.rauc_cli.specs.declared.conf.ConfRefusal.{ConfRefusal}
+use Rattle.rauc_cli.specs.declared.conf.ConfRefusal.TheVariants as conf
+use Rattle.rauc_cli.specs.declared.outcome.SlotRefusal.{SlotRefusal}
+use Rattle.rauc_cli.specs.declared.outcome.SlotRefusal.TheVariants as slot
+use Rattle.rauc_cli.specs.declared.outcome.Outcome.{Outcome}
+use Rattle.rauc_cli.specs.declared.outcome.Outcome.TheVariants as end
+use Rattle.rauc_cli.specs.declared.outcome.Report.{Report}
+use Rattle.rauc_cli.specs.Words.{conf_path}
+
+-- the exit status: 0 done, 1 refused, 2 a fault of the outside or not all told, 3 want of memory
+abbrev pub status_of : Outcome → Bool → ℕ
+status_of outcome false = 2
+status_of end.Done true = 0
+status_of (end.Outside kind) true = 2
+status_of end.NoMemory true = 3
+status_of outcome true = 1
+
+-- the line of a slot that was written
+abbrev pub written_head : List ℕ → ℕ → List ℕ
+written_head slot size = codes "slot " ++ (slot ++ (codes " written: " ++ (decimal size ++ codes " bytes, sha256 ")))
+
+abbrev pub written_line : List ℕ → ℕ → List ℕ → List ℕ
+written_line slot size digest = written_head slot size ++ encode_lower digest ++ codes "\n"
+
+-- the report of it
+abbrev pub written_report : List ℕ → ℕ → List ℕ → Report
+written_report slot size digest = record { outcome = end.Done; out = written_line slot size digest; err = [] }
+
+abbrev pub fault_word : Fault → List ℕ
+fault_word fault.Read = codes "read"
+fault_word fault.Write = codes "write"
+fault_word fault.Sync = codes "sync"
+fault_word fault.Size = codes "size"
+fault_word fault.Replace = codes "replace"
+fault_word fault.Run = codes "run"
+fault_word fault.Clock = codes "clock"
+
+-- the path of the command's image
+abbrev pub image_path : Command → List ℕ
+image_path (command.WriteSlot conf slot image) = image
+
+-- what is wrong with a key file
+abbrev pub key_cause : KeyFault → List ℕ
+key_cause (key.TooLong n) = codes "configuration: " ++ (decimal n ++ codes " bytes are too long")
+key_cause (key.BadLine n) = codes "configuration: line " ++ (decimal n ++ codes " is bad")
+
+-- a group, and a key of it, if one is named
+abbrev pub left_out_cause : List ℕ → List ℕ → List ℕ
+left_out_cause group key =
+    if length key == 0 then codes "configuration: [" ++ (group ++ codes "] left out")
+    else codes "configuration: [" ++ (group ++ (codes "] " ++ (key ++ codes " left out")))
+
+-- what is wrong with the groups and keys of a configuration
+abbrev pub refusal_cause : ConfRefusal → List ℕ
+refusal_cause (conf.Missing group key) = codes "configuration: [" ++ (group ++ (codes "] " ++ (key ++ codes " missing")))
+refusal_cause (conf.LeftOut group key) = left_out_cause group key
+refusal_cause (conf.BadValue group key) = codes "configuration: [" ++ (group ++ (codes "] " ++ (key ++ codes " bad value")))
+
+abbrev pub conf_cause : BadConf → List ℕ
+conf_cause (bad.Key fault) = key_cause fault
+conf_cause (bad.Conf refusal) = refusal_cause refusal
+
+-- why an image is not put on a device
+abbrev pub put_cause : List ℕ → PutRefusal → List ℕ
+put_cause image (put.NoImage path) = codes "no image " ++ path
+put_cause image (put.NoDevice path) = codes "no device " ++ path
+put_cause image (put.ImageSize stated found) = codes "image " ++ (image ++ (codes ": " ++ (decimal found ++ (codes " bytes, manifest says " ++ decimal stated))))
+put_cause image (put.ImageTooLarge size device) = codes "image " ++ (image ++ (codes ": " ++ (decimal size ++ (codes " bytes do not fit device of " ++ decimal device))))
+
+-- why a slot is not written
+abbrev pub slot_cause : List ℕ → SlotRefusal → List ℕ
+slot_cause image (slot.NoSuchSlot text) = codes "no such slot: " ++ text
+slot_cause image (slot.Image refusal) = put_cause image refusal
+
+-- the cause of an end of the command
+abbrev pub cause_of : Command → Outcome → List ℕ
+cause_of command end.Done = []
+cause_of command end.Usage = codes "bad usage, see rauc --help"
+cause_of command end.NoConfig = codes "no configuration " ++ conf_path command
+cause_of command (end.BadConfig refusal) = conf_cause refusal
+cause_of command (end.Slot refusal) = slot_cause (image_path command) refusal
+cause_of command (end.Outside kind) = codes "outside fault: " ++ fault_word kind
+cause_of command end.NoMemory = codes "out of memory"
+
+-- one line on standard error
+abbrev pub error_line : List ℕ → List ℕ
+error_line cause = codes "rauc: " ++ (cause ++ codes "\n")
+
+-- the report of one such line, and nothing else
+abbrev pub failing : Outcome → List ℕ → Report
+failing outcome cause = record { outcome = outcome; out = []; err = error_line cause }
+
+-- the report of a command that did not do its work
+abbrev pub failed : Command → Outcome → Report
+failed command outcome = failing outcome (cause_of command outcome)
+
+-- the reports that every command may end with: a machine call that failed, want of memory, words that are no command
+abbrev pub outside : Fault → Report
+outside kind = failing (end.Outside kind) (codes "outside fault: " ++ fault_word kind)
+
+abbrev pub memory_report : Report
+memory_report = failing end.NoMemory (codes "out of memory")
+
+abbrev pub usage_report : Report
+usage_report = failing end.Usage (codes "bad usage, see rauc --help")

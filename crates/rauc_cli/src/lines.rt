@@ -1,0 +1,200 @@
+ghost use Rattle.std.specs.Prelude.{◌≡◌, IfOk, Some, string_bytes};
+ghost use Rattle.rauc_cli.specs.Lines.{cause_of, conf_cause, failed, failing, fault_word, image_path, key_cause, left_out_cause, put_cause, refusal_cause, slot_cause, written_head, written_line, written_report};
+ghost use Rattle.rauc_cli.specs.Ends.{IsFailure, Speaks};
+
+use crate::outcome::Report;
+use crate::{BadConf, Command, ConfRefusal, Outcome, SlotRefusal};
+use keyfile::KeyFault;
+use raw_writer::PutRefusal;
+use std::alloc::{AllocError, Global};
+use updater_text::{Digest, Fault, NoMemory, Text};
+
+// The line of a slot that was written, up to the digest.
+fn written_head(alloc: Global, slot: &str, size: u64) -> Result<String, AllocError>
+    ensures { IfOk result (λ t. string_bytes t ≡ written_head slot.now size) }
+{
+    format!(in alloc; "slot {slot} written: {size} bytes, sha256 ")
+}
+
+// The line of a slot that was written.
+fn written_line(alloc: Global, slot: &str, size: u64, digest: &Digest) -> Result<Text, NoMemory>
+    ensures { IfOk result (λ t. t ≡ written_line slot.now size digest.now.0) }
+{
+    let hex = digest.hex(alloc)?;
+    let mut line = written_head(alloc, slot, size)?;
+    line.push_str(hex.as_str())?;
+    line.push_str("\n")?;
+    Ok(Text::from_string(line))
+}
+
+/// The report of a slot that was written.
+pub fn written_report(
+    alloc: Global,
+    slot: &str,
+    size: u64,
+    digest: &Digest,
+) -> Result<Report, NoMemory>
+    ensures { IfOk result (λ r. r ≡ written_report slot.now size digest.now.0) }
+{
+    let out = written_line(alloc, slot, size, digest)?;
+    Ok(Report {
+        outcome: Outcome::Done,
+        out,
+        err: Text::empty(alloc),
+    })
+}
+
+// The word of a fault.
+fn fault_word(kind: Fault) -> &'static str
+    ensures { result.now ≡ fault_word kind }
+{
+    match kind {
+        Fault::Read => "read",
+        Fault::Write => "write",
+        Fault::Sync => "sync",
+        Fault::Size => "size",
+        Fault::Replace => "replace",
+        Fault::Run => "run",
+        Fault::Clock => "clock",
+    }
+}
+
+// The path of the command's image.
+fn image_path(command: &Command) -> &str
+    ensures { result.now ≡ image_path command.now }
+{
+    match command {
+        Command::WriteSlot { image, .. } => image.as_str(),
+    }
+}
+
+// What is wrong with a key file.
+fn key_cause(alloc: Global, fault: &KeyFault) -> Result<String, AllocError>
+    ensures { IfOk result (λ t. string_bytes t ≡ key_cause fault.now) }
+{
+    match fault {
+        KeyFault::TooLong { length } => {
+            format!(in alloc; "configuration: {length} bytes are too long")
+        }
+        KeyFault::BadLine { number } => format!(in alloc; "configuration: line {number} is bad"),
+    }
+}
+
+// What a configuration has that is not read: a group, where the key is empty, or a key.
+fn left_out_cause(alloc: Global, group: &str, key: &str) -> Result<String, AllocError>
+    ensures { IfOk result (λ t. string_bytes t ≡ left_out_cause group.now key.now) }
+{
+    if key.is_empty() {
+        format!(in alloc; "configuration: [{group}] left out")
+    } else {
+        format!(in alloc; "configuration: [{group}] {key} left out")
+    }
+}
+
+// What is wrong with the groups and keys of a configuration.
+fn refusal_cause(alloc: Global, refusal: &ConfRefusal) -> Result<String, AllocError>
+    ensures { IfOk result (λ t. string_bytes t ≡ refusal_cause refusal.now) }
+{
+    match refusal {
+        ConfRefusal::Missing { group, key } => {
+            let group = group.as_str();
+            let key = key.as_str();
+            format!(in alloc; "configuration: [{group}] {key} missing")
+        }
+        ConfRefusal::LeftOut { group, key } => {
+            left_out_cause(alloc, group.as_str(), key.as_str())
+        }
+        ConfRefusal::BadValue { group, key } => {
+            let group = group.as_str();
+            let key = key.as_str();
+            format!(in alloc; "configuration: [{group}] {key} bad value")
+        }
+    }
+}
+
+// What is wrong with a configuration.
+fn conf_cause(alloc: Global, refusal: &BadConf) -> Result<String, AllocError>
+    ensures { IfOk result (λ t. string_bytes t ≡ conf_cause refusal.now) }
+{
+    match refusal {
+        BadConf::Key(fault) => key_cause(alloc, fault),
+        BadConf::Conf(refusal) => refusal_cause(alloc, refusal),
+    }
+}
+
+// Why an image is not put on a device.
+fn put_cause(alloc: Global, image: &str, refusal: &PutRefusal) -> Result<String, AllocError>
+    ensures { IfOk result (λ t. string_bytes t ≡ put_cause image.now refusal.now) }
+{
+    match refusal {
+        PutRefusal::NoImage { path } => {
+            let path = path.as_str();
+            format!(in alloc; "no image {path}")
+        }
+        PutRefusal::NoDevice { path } => {
+            let path = path.as_str();
+            format!(in alloc; "no device {path}")
+        }
+        PutRefusal::ImageSize { stated, found } => {
+            format!(in alloc; "image {image}: {found} bytes, manifest says {stated}")
+        }
+        PutRefusal::ImageTooLarge { size, device } => {
+            format!(in alloc; "image {image}: {size} bytes do not fit device of {device}")
+        }
+    }
+}
+
+// Why a slot is not written.
+fn slot_cause(alloc: Global, image: &str, refusal: &SlotRefusal) -> Result<String, AllocError>
+    ensures { IfOk result (λ t. string_bytes t ≡ slot_cause image.now refusal.now) }
+{
+    match refusal {
+        SlotRefusal::NoSuchSlot { text } => {
+            let text = text.as_str();
+            format!(in alloc; "no such slot: {text}")
+        }
+        SlotRefusal::Image(refusal) => put_cause(alloc, image, refusal),
+    }
+}
+
+// The cause of an end of the command.
+fn cause(alloc: Global, command: &Command, outcome: &Outcome) -> Result<String, AllocError>
+    ensures { IfOk result (λ t. string_bytes t ≡ cause_of command.now outcome.now) }
+{
+    match outcome {
+        Outcome::Done => Ok(String::new(alloc)),
+        Outcome::Usage => String::from_str(alloc, "bad usage, see rauc --help"),
+        Outcome::NoConfig => {
+            let path = command.conf();
+            format!(in alloc; "no configuration {path}")
+        }
+        Outcome::BadConfig(refusal) => conf_cause(alloc, refusal),
+        Outcome::Slot(refusal) => slot_cause(alloc, image_path(command), refusal),
+        Outcome::Outside(kind) => {
+            let word = fault_word(*kind);
+            format!(in alloc; "outside fault: {word}")
+        }
+        Outcome::NoMemory => String::from_str(alloc, "out of memory"),
+    }
+}
+
+/// A report of one line on standard error, and nothing else.
+pub fn failing(alloc: Global, outcome: Outcome, cause: &str) -> Result<Report, NoMemory>
+    ensures { IfOk result (λ r. r ≡ failing outcome cause.now) }
+{
+    let line = format!(in alloc; "rauc: {cause}\n")?;
+    Ok(Report {
+        outcome,
+        out: Text::empty(alloc),
+        err: Text::from_string(line),
+    })
+}
+
+/// The report of a command that did not do its work.
+pub fn failed(alloc: Global, command: &Command, outcome: Outcome) -> Result<Report, NoMemory>
+    ensures report { IfOk result (λ r. r ≡ failed command.now outcome) }
+    ensures spoken { IsFailure outcome → IfOk result (Speaks (Some command.now)) }
+{
+    let cause = cause(alloc, command, &outcome)?;
+    failing(alloc, outcome, cause.as_str())
+}

@@ -1,0 +1,76 @@
+ghost use Rattle.std.specs.Prelude.{◌≡◌};
+ghost use Rattle.rauc_cli.specs.Lines.{status_of};
+
+use crate::BadConf;
+use raw_writer::PutRefusal;
+use updater_text::{Digest, Fault, Text};
+
+/// Why a slot is not written.
+#[derive(Debug, Drop)]
+pub enum SlotRefusal {
+    /// No slot of the configuration has this name.
+    NoSuchSlot { text: Text },
+    /// The image is not put on the slot's device.
+    Image(PutRefusal),
+}
+
+/// A slot that was written: its place among the slots, the image's length in bytes, and the SHA-256
+/// of what was written.
+#[derive(Debug, Drop)]
+pub struct SlotWritten {
+    pub slot: usize,
+    pub size: u64,
+    pub digest: Digest,
+}
+
+/// How a call of the program ended.
+#[derive(Debug, Drop)]
+pub enum Outcome {
+    /// The command did its work.
+    Done,
+    /// The words are no command.
+    Usage,
+    /// The configuration file is not there.
+    NoConfig,
+    /// The configuration is refused.
+    BadConfig(BadConf),
+    /// `write-slot` is refused.
+    Slot(SlotRefusal),
+    /// A call of the machine failed.
+    Outside(Fault),
+    /// Memory was wanting.
+    NoMemory,
+}
+
+/// How a call of the program ended, and the texts for its two sinks.
+#[derive(Debug, Drop)]
+pub struct Report {
+    pub outcome: Outcome,
+    pub out: Text,
+    pub err: Text,
+}
+
+/// How a call of the program ended, and whether it could tell all of it.
+#[derive(Debug, Drop)]
+pub struct Finish {
+    pub outcome: Outcome,
+    pub told: bool,
+}
+
+impl Finish {
+    /// The exit status: 0 where the work was done; 1 for a refusal; 2 where the outside failed, also
+    /// where not all could be told; 3 for want of memory. It takes no memory.
+    pub fn status(&self) -> u8
+        ensures { result ≡ status_of self.now.outcome self.now.told }
+    {
+        if !self.told {
+            return 2;
+        }
+        match &self.outcome {
+            Outcome::Done => 0,
+            Outcome::Outside(_) => 2,
+            Outcome::NoMemory => 3,
+            _ => 1,
+        }
+    }
+}

@@ -1,0 +1,103 @@
+ghost use Rattle.std.specs.Prelude.{◌≡◌, IsTrue, IfOk};
+ghost use Rattle.machine.specs.Past.{Always, Fails, now};
+ghost use Rattle.machine.specs.Stops.{StopCounted, stop_fault};
+ghost use Rattle.rauc_cli.specs.Slots.{Puts, device_at, image_stop, put_answer, slot_answer, slot_device, whole_answer};
+
+use crate::conf::slot_named;
+use crate::outcome::SlotWritten;
+use crate::{Slot, SlotRefusal, System};
+use machine::Machine;
+use raw_writer::{PutRefusal, WholeStop, check_image, write_whole};
+use std::alloc::Global;
+use updater_text::{Digest, Stop, Text};
+
+/// How many bytes are read and written at a time.
+const PIECE: usize = 65_536;
+
+// A stop of the image's check.
+fn image_stop(stop: Stop<PutRefusal>) -> Stop<SlotRefusal>
+    ensures { result ≡ image_stop stop }
+{
+    match stop {
+        Stop::Refused(refusal) => Stop::Refused(SlotRefusal::Image(refusal)),
+        Stop::Outside(kind) => Stop::Outside(kind),
+        Stop::NoMemory => Stop::NoMemory,
+    }
+}
+
+// What a whole write of this size to the slot at this place comes to. An image that grew shorter
+// since its check is of another size than that.
+fn whole_answer(
+    slot: usize,
+    size: u64,
+    written: Result<Digest, WholeStop>,
+) -> Result<SlotWritten, Stop<SlotRefusal>>
+    ensures { result ≡ whole_answer slot size written }
+{
+    match written {
+        Ok(digest) => Ok(SlotWritten { slot, size, digest }),
+        Err(WholeStop::Outside(kind)) => Err(Stop::Outside(kind)),
+        Err(WholeStop::Short { found }) => {
+            Err(Stop::Refused(SlotRefusal::Image(PutRefusal::ImageSize {
+                stated: size,
+                found,
+            })))
+        }
+        Err(WholeStop::NoMemory) => Err(Stop::NoMemory),
+    }
+}
+
+// Writes the image to the device of the slot at this place.
+fn write_on<M: Machine>(
+    alloc: Global,
+    m: &mut M,
+    slot: usize,
+    device: &str,
+    image: &str,
+) -> Result<SlotWritten, Stop<SlotRefusal>>
+    ensures put { Puts M.tells image.now device.now (put_answer slot image.now device.now (now (M.past m.old))) (M.past m.old) (M.past m.new) result }
+    ensures counts { StopCounted (M.faults m.old) (M.faults m.new) (M.wants m.old) (M.wants m.new) result }
+{
+    let size = match check_image(alloc, m, image, None, Some(device)) {
+        Ok(size) => size,
+        Err(stop) => return Err(image_stop(stop)),
+    };
+    let mut buffer = match vec![in alloc; 0u8; PIECE] {
+        Ok(buffer) => buffer,
+        Err(_) => return Err(Stop::NoMemory),
+    };
+    let written = write_whole(m, image, device, size, buffer.as_mut_slice());
+    whole_answer(slot, size, written)
+}
+
+// The device of the slot at this place.
+fn device_at(slots: &[Slot], at: usize) -> &str
+    ensures { result.now ≡ device_at slots.now at }
+{
+    match slots.get(at) {
+        Some(slot) => slot.device.as_str(),
+        None => "",
+    }
+}
+
+/// Writes an image whole to the front of the device of the slot of this name. In this order:
+/// `NoSuchSlot` where no slot has the name; the refusals of the image's check; `ImageSize` where the
+/// image grew shorter since.
+pub fn write_slot<M: Machine>(
+    alloc: Global,
+    m: &mut M,
+    system: &System,
+    slot: &str,
+    image: &str,
+) -> Result<SlotWritten, Stop<SlotRefusal>>
+    ensures put { Puts M.tells image.now (slot_device system.now slot.now) (slot_answer system.now slot.now image.now (now (M.past m.old))) (M.past m.old) (M.past m.new) result }
+    ensures counts { StopCounted (M.faults m.old) (M.faults m.new) (M.wants m.old) (M.wants m.new) result }
+{
+    match slot_named(system, slot) {
+        Some(at) => write_on(alloc, m, at, device_at(system.slots.as_slice(), at), image),
+        None => match Text::new(alloc, slot) {
+            Ok(text) => Err(Stop::Refused(SlotRefusal::NoSuchSlot { text })),
+            Err(_) => Err(Stop::NoMemory),
+        },
+    }
+}
