@@ -1,4 +1,6 @@
-ghost use Rattle.std.specs.Prelude.{◌≡◌, ◌==◌, ◌++◌, [], ◌∷◌, length, OnOk, OnErr};
+ghost use Rattle.std.specs.Prelude.{◌≡◌, ◌==◌, ◌++◌, ◌-◌, ◌^◌, ◌<◌, [], ◌∷◌, length, take, IsSome, ◌↔◌, OnOk, OnErr};
+ghost use Rattle.std.specs.Option.{option_to_list};
+ghost use Rattle.std.specs.Borrow.{sem};
 
 use crate::NoMemory;
 use std::alloc::Global;
@@ -22,6 +24,8 @@ impl<T> Model for Items<T> {
 }
 
 impl<T> Items<T> {
+    ghost use Rattle.updater_text.specs.Lent.{lends_items};
+
     /// No items. It takes no memory.
     pub fn new(alloc: Global) -> Items<T>
         ensures { result ≡ [] }
@@ -53,9 +57,27 @@ impl<T> Items<T> {
         self.items.as_slice()
     }
 
-    /// How many items there are.
+    /// The items, lent for writing.
+    pub fn as_mut_slice(&mut self) -> &mut [T]
+        ensures* writes_back { sem 𝓛 (lends_items T.row self.entry result) }
+        ensures value { result.now ≡ self.old }
+    {
+        self.items.as_mut_slice()
+    }
+
+    /// Takes the last item, if there is one.
+    pub fn pop(&mut self) -> Option<T>
+        ensures items { self.old ≡ self.new ++ option_to_list result }
+        ensures variant { IsSome result ↔ (0 < length self.old) }
+        ensures rest { self.new ≡ take (length self.old - 1) self.old }
+    {
+        self.items.pop()
+    }
+
+    /// How many items there are. They fit memory, so it is below 2^63.
     pub fn len(&self) -> usize
-        ensures { result ≡ length self.now }
+        ensures count { result ≡ length self.now }
+        ensures small { result < 2 ^ 63 }
     {
         self.items.len()
     }
