@@ -4,3 +4,4 @@ pub mod Failing
 pub mod Joins
 pub mod Reading
 pub mod Only
+pub mod Undoing

@@ -4,3 +4,4 @@ pub mod Past
 pub mod Calls
 pub mod Frames
 pub mod Stops
+pub mod Undo

@@ -4,6 +4,7 @@
 
 mod calls;
 mod law;
+mod memory;
 mod reads;
 mod world;
 

@@ -1,0 +1,46 @@
+-- An undo log that gains a note.
+use Rattle.std.proofs.Common.{◌≡◌, inl, List, [], ◌∷◌, ◌++◌, reverse, refl, sym, ◌∙◌, ap, subst}
+use Rattle.std.proofs.lemmas.List.{reverse-append}
+use Rattle.machine.specs.declared.world.World.{World}
+use Rattle.machine.specs.declared.memory.notes.Note.{Note}
+use Rattle.machine.specs.Past.{Call, File, Size, Read, Write, Sync, End, Done, Broken, Overlong, After, Past, now, more, Did}
+use Rattle.machine.specs.Undo.{Left, call_of, end_of, moment_of, past_back, past_of, undone}
+use Rattle.machine.proofs.Moments.{now-more}
+
+-- the past ends in the world from which it was told back
+now-back : (w : World) (ns : List Note) → now (past_back w ns) ≡ w
+now-back w [] = refl
+now-back w (n ∷ older) = now-more (past_back (undone w n) older) (moment_of n w ∷ [])
+
+pub now-past_of : (w : World) (notes : List Note) → now (past_of w notes) ≡ w
+now-past_of w notes = now-back w (reverse notes)
+
+-- a note more is a moment more
+pub past_of-push : (w w' : World) (notes : List Note) (n : Note) → undone w' n ≡ w → past_of w' (notes ++ n ∷ []) ≡ more (past_of w notes) (moment_of n w' ∷ [])
+past_of-push w w' notes n back =
+    ap (λ (ns : List Note). past_back w' ns) (reverse-append notes (n ∷ []))
+    ∙ ap (λ (u : World). more (past_back u (reverse notes)) (moment_of n w' ∷ [])) back
+
+left_after : (call : Call) (end : End) (w v : World) → Left call end w v → After call end w v
+left_after call Done w v h = h
+left_after (File path) Broken w v h = h
+left_after (Size path) Broken w v h = h
+left_after (Read path count) Broken w v h = h
+left_after (Write path at count) Broken w v h = inl h
+left_after (Sync path) Broken w v h = h
+left_after (File path) Overlong w v h = h
+left_after (Size path) Overlong w v h = h
+left_after (Read path count) Overlong w v h = h
+left_after (Write path at count) Overlong w v h = h
+left_after (Sync path) Overlong w v h = h
+
+-- what the trait asks of a call
+pub did_note : (w w' : World) (notes : List Note) (n : Note) → undone w' n ≡ w → Left (call_of n.undo) (end_of n.outcome) w w' → Did (past_of w notes) (past_of w' (notes ++ n ∷ [])) (call_of n.undo) (end_of n.outcome)
+did_note w w' notes n back left =
+    let here = now-past_of w' (notes ++ n ∷ []) in
+    record {
+      grows = past_of-push w w' notes n back
+          ∙ ap (λ (u : World). more (past_of w notes) (moment_of n u ∷ [])) (sym here);
+      after = subst (λ (u : World). After (call_of n.undo) (end_of n.outcome) u (now (past_of w' (notes ++ n ∷ [])))) (sym (now-past_of w notes))
+          (subst (λ (u : World). After (call_of n.undo) (end_of n.outcome) w u) (sym here) (left_after (call_of n.undo) (end_of n.outcome) w w' left));
+    }
