@@ -4,4 +4,5 @@ pub mod Failing
 pub mod Joins
 pub mod Reading
 pub mod Only
+pub mod Places
 pub mod Undoing
