@@ -52,3 +52,144 @@ pub fn patch_list(list: &mut [Named], path: &str, at: usize, from: &[u8])
         patch(named.bytes.as_mut_slice(), at, from);
     }
 }
+
+/// What a read finds under a path: a disk, else a file, else nothing.
+#[tactic(auto, unfolding(crate::specs::World::readable))]
+pub fn bytes_read<'a>(world: &'a World, path: &str) -> &'a [u8]
+    ensures { result.now ≡ readable world.now path.now }
+{
+    match bytes_of(world.disks.as_slice(), path) {
+        Some(bytes) => bytes,
+        None => match bytes_of(world.files.as_slice(), path) {
+            Some(bytes) => bytes,
+            None => &[],
+        },
+    }
+}
+
+/// The length of the disk or, where `disk` is false, of the disk or file. It is below 2^63.
+pub fn size_under(world: &World, path: &str, disk: bool) -> Option<u64>
+    ensures count { result ≡ size_of world.now path.now disk }
+    ensures small { IfSome result (λ count. count < 2 ^ 63) }
+{
+    match length_of(world.disks.as_slice(), path) {
+        Some(count) => Some(count),
+        None if disk => None,
+        None => length_of(world.files.as_slice(), path),
+    }
+}
+
+/// How many bytes a read from byte `at` on gives, where there is room for so many.
+pub fn count_at(bytes: &[u8], at: u64, room: usize) -> usize
+    ensures { result ≡ min (length bytes.now - at) room }
+{
+    bytes.len().saturating_sub(at as usize).min(room)
+}
+
+/// Copies bytes from byte `at` on to the front of `into`: as many as there are, and as fit.
+pub fn copy_at(bytes: &[u8], at: u64, into: &mut [u8])
+    ensures front { take (min (length bytes.now - at) (length into.old)) into.new ≡ take (min (length bytes.now - at) (length into.old)) (drop at bytes.now) }
+    ensures rest { drop (min (length bytes.now - at) (length into.old)) into.new ≡ drop (min (length bytes.now - at) (length into.old)) into.old }
+{
+    let count = count_at(bytes, at, into.len());
+    if count == 0 {
+        return;
+    }
+    let start = at as usize;
+    into[..count].copy_from_slice(&bytes[start..start + count]);
+}
+
+/// The spans that are not of the path, once more.
+pub fn besides(alloc: Global, spans: &[Span], path: &str) -> Result<Items<Span>, NoMemory>
+    ensures { IfOk result (λ kept. kept ≡ filter (λ s. not (bytes_eq s.path path.now)) spans.now) }
+{
+    let mut kept = Items::new(alloc);
+    for span in spans {
+        if span.path.as_str() != path {
+            kept.push(Span {
+                path: span.path.copy(alloc)?,
+                at: span.at,
+                length: span.length,
+            })?;
+        }
+    }
+    Ok(kept)
+}
+
+/// A range of the bytes under a path, once more.
+pub fn copy_range(
+    alloc: Global,
+    list: &[Named],
+    path: &str,
+    at: usize,
+    count: usize,
+) -> Result<Items<u8>, NoMemory>
+    requires { (bytes : List ℕ) × (bytes_under list.now path.now ≡ Some bytes) × (at + count ≤ length bytes) }
+    ensures { IfOk result (λ range. range ≡ take count (drop at (unwrap_or (bytes_under list.now path.now) []))) }
+{
+    let range = match bytes_of(list, path) {
+        Some(bytes) => Vec::from_slice(alloc, &bytes[at..at + count])?,
+        None => Vec::new(alloc),
+    };
+    Ok(Items::from_vec(range))
+}
+
+// Puts a span at the end of each of two lists, or of none.
+fn push_both(
+    pending: &mut Items<Span>,
+    writes: &mut Items<Span>,
+    first: Span,
+    second: Span,
+) -> Result<(), NoMemory>
+    ensures ok { OnOk result ((pending.new ≡ pending.old ++ first ∷ []) × (writes.new ≡ writes.old ++ second ∷ [])) }
+    ensures err { OnErr result ((pending.new ≡ pending.old) × (writes.new ≡ writes.old)) }
+{
+    pending.push(first)?;
+    if writes.push(second).is_err() {
+        let _ = pending.pop();
+        return Err(NoMemory);
+    }
+    Ok(())
+}
+
+fn make_span(alloc: Global, path: &str, at: u64, count: u64) -> Result<Span, NoMemory>
+    ensures { IfOk result (λ s. s ≡ record { path = path.now; at = at; length = count }) }
+{
+    Ok(Span {
+        path: Text::new(alloc, path)?,
+        at,
+        length: count,
+    })
+}
+
+/// Writes a range of a disk.
+#[tactic(auto, unfolding(crate::specs::World::written))]
+pub fn write(
+    alloc: Global,
+    world: &mut World,
+    path: &str,
+    at: u64,
+    from: &[u8],
+) -> Result<(), NoMemory>
+    requires { Holds world.old path.now (at + length from.now) }
+    ensures ok { OnOk result (world.new ≡ written world.old path.now at from.now) }
+    ensures err { OnErr result (world.new ≡ world.old) }
+{
+    let count = from.len() as u64;
+    let first = make_span(alloc, path, at, count)?;
+    let second = make_span(alloc, path, at, count)?;
+    push_both(&mut world.pending, &mut world.writes, first, second)?;
+    patch_list(world.disks.as_mut_slice(), path, at as usize, from);
+    Ok(())
+}
+
+/// Counts what was read under a path.
+#[tactic(auto, unfolding(crate::specs::World::fetching))]
+pub fn fetch(world: &mut World, path: &str, count: u64)
+    requires { world.old.fetched + count < 2 ^ 128 }
+    ensures { world.new ≡ fetching world.old path.now count }
+{
+    if bytes_of(world.disks.as_slice(), path).is_none() {
+        world.fetched += u128::from(count);
+    }
+}
