@@ -6,3 +6,4 @@ pub mod Reading
 pub mod Only
 pub mod Places
 pub mod Undoing
+pub mod Noting

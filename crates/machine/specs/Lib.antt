@@ -5,3 +5,4 @@ pub mod Calls
 pub mod Frames
 pub mod Stops
 pub mod Undo
+pub mod Logged
