@@ -5,4 +5,5 @@ pub mod Calls
 pub mod Frames
 pub mod Stops
 pub mod Undo
+pub mod Whole
 pub mod Logged

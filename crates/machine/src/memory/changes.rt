@@ -1,7 +1,9 @@
 ghost use Rattle.std.specs.Prelude.{◌≡◌, ◌+◌, ◌-◌, ◌<◌, ◌≤◌, ◌^◌, ◌++◌, [], ◌∷◌, ℕ, List, Some, length, take, drop, min, position, bytes_eq, filter, not, unwrap_or, IfOk, IfSome, OnOk, OnErr};
 ghost use Rattle.std.specs.Option.{option_copied, option_map};
 ghost use Rattle.machine.specs.World.{Holds, bytes_under, disk, fetching, patch_under, patched, readable, size_of, written};
+ghost use Rattle.machine.specs.Whole.{WholeFound};
 
+use crate::memory::notes::Whole;
 use crate::{Named, Span, World};
 use std::alloc::Global;
 use updater_text::{Items, NoMemory, Text};
@@ -51,6 +53,21 @@ pub fn patch_list(list: &mut [Named], path: &str, at: usize, from: &[u8])
         let named = &mut list[place];
         patch(named.bytes.as_mut_slice(), at, from);
     }
+}
+
+/// The bytes of a file of at most `limit` bytes, once more.
+pub fn whole_file(alloc: Global, files: &[Named], path: &str, limit: u64) -> Result<Whole, NoMemory>
+    ensures { IfOk result (WholeFound (bytes_under files.now path.now) limit) }
+{
+    let Some(bytes) = bytes_of(files, path) else {
+        return Ok(Whole::Bytes(None));
+    };
+    let length = bytes.len() as u64;
+    if limit < length {
+        return Ok(Whole::TooLong(length));
+    }
+    let copy = Vec::from_slice(alloc, bytes)?;
+    Ok(Whole::Bytes(Some(Items::from_vec(copy))))
 }
 
 /// What a read finds under a path: a disk, else a file, else nothing.

@@ -1,8 +1,10 @@
 ghost use Rattle.std.specs.Prelude.{◌≡◌, ◌≤◌, ◌+◌, ◌*◌, ◌^◌, ◌++◌, [], ◌∷◌, Bool, true, false, length, vec_len, IsTrue, MatchBool, IfOk, OnOk, OnErr};
 
 use crate::World;
-use crate::memory::changes::{besides, bytes_read, copy_at, copy_range, count_at, fetch, write};
-use crate::memory::notes::{Note, Outcome, Undo};
+use crate::memory::changes::{
+    besides, bytes_read, copy_at, copy_range, count_at, fetch, whole_file, write,
+};
+use crate::memory::notes::{Note, Outcome, Undo, Whole};
 use std::alloc::Global;
 use std::mem;
 use updater_text::{Items, NoMemory, Text};
@@ -17,10 +19,11 @@ pub struct UndoLog {
 }
 
 impl UndoLog {
-    ghost use Rattle.machine.specs.World.{Holds, readable, written};
+    ghost use Rattle.machine.specs.World.{Holds, file, readable, written};
     ghost use Rattle.machine.specs.Past.{File, Size, Read, Sync, Write};
     ghost use Rattle.machine.specs.Calls.{ReadSome};
     ghost use Rattle.machine.specs.Undo.{before, end_of};
+    ghost use Rattle.machine.specs.Whole.{WholeFound, end_whole};
     ghost use Rattle.machine.specs.Logged.{Kept, Noted, end_if};
 
     // Notes a call that changes nothing.
@@ -33,13 +36,33 @@ impl UndoLog {
         Ok(())
     }
 
-    /// The reading of a whole file.
-    pub fn file(&mut self, alloc: Global, path: &str, outcome: Outcome) -> Result<(), NoMemory>
-        ensures ok { OnOk result (Noted self.old self.new (File path.now) (end_of outcome)) }
+    /// The reading of a whole file of at most `limit` bytes.
+    pub fn file(
+        &mut self,
+        alloc: Global,
+        path: &str,
+        limit: u64,
+        fails: bool,
+    ) -> Result<Whole, NoMemory>
+        ensures ok { IfOk result (λ found. Noted self.old self.new (File path.now) (end_whole fails found)) }
+        ensures found { fails ≡ false → IfOk result (WholeFound (file self.old.world path.now) limit) }
         ensures err { OnErr result (Kept self.old self.new) }
     {
-        let path = Text::new(alloc, path)?;
-        self.note(Undo::File { path }, outcome)
+        let named = Text::new(alloc, path)?;
+        if fails {
+            self.note(Undo::File { path: named }, Outcome::Failed)?;
+            return Ok(Whole::Bytes(None));
+        }
+        match whole_file(alloc, self.world.files.as_slice(), path, limit)? {
+            Whole::Bytes(bytes) => {
+                self.note(Undo::File { path: named }, Outcome::Done)?;
+                Ok(Whole::Bytes(bytes))
+            }
+            Whole::TooLong(length) => {
+                self.note(Undo::File { path: named }, Outcome::TooLong)?;
+                Ok(Whole::TooLong(length))
+            }
+        }
     }
 
     /// The asking of a length.

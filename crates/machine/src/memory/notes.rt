@@ -40,3 +40,11 @@ pub struct Note {
     pub undo: Undo,
     pub outcome: Outcome,
 }
+
+/// A whole file that was looked up: its bytes, if there are any, or how long it is where that is more
+/// than was asked for.
+#[derive(Drop)]
+pub enum Whole {
+    Bytes(Option<Items<u8>>),
+    TooLong(u64),
+}
