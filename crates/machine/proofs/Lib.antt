@@ -6,4 +6,5 @@ pub mod Reading
 pub mod Only
 pub mod Places
 pub mod Undoing
+pub mod Settling
 pub mod Noting

@@ -3,8 +3,10 @@ use Rattle.std.proofs.Common.{◌≡◌, inl, List, [], ◌∷◌, ◌++◌, rev
 use Rattle.std.proofs.lemmas.List.{reverse-append}
 use Rattle.machine.specs.declared.world.World.{World}
 use Rattle.machine.specs.declared.memory.notes.Note.{Note}
+use Rattle.machine.specs.declared.memory.log.UndoLog.{UndoLog}
 use Rattle.machine.specs.Past.{Call, File, Size, Read, Write, Sync, End, Done, Broken, Overlong, After, Past, now, more, Did}
 use Rattle.machine.specs.Undo.{Left, call_of, end_of, moment_of, past_back, past_of, undone}
+use Rattle.machine.specs.Logged.{Kept, Noted, told_by}
 use Rattle.machine.proofs.Moments.{now-more}
 
 -- the past ends in the world from which it was told back
@@ -44,3 +46,18 @@ did_note w w' notes n back left =
       after = subst (λ (u : World). After (call_of n.undo) (end_of n.outcome) u (now (past_of w' (notes ++ n ∷ [])))) (sym (now-past_of w notes))
           (subst (λ (u : World). After (call_of n.undo) (end_of n.outcome) w u) (sym here) (left_after (call_of n.undo) (end_of n.outcome) w w' left));
     }
+
+-- a call that was noted
+pub did_noted : (old new : UndoLog) (call : Call) (end : End) → Noted old new call end → Did (told_by old) (told_by new) call end
+did_noted old new call end h =
+    let left = subst (λ (k : Call). Left k (end_of h.note.outcome) old.world new.world) (sym h.call_is)
+    (subst (λ (e : End). Left call e old.world new.world) (sym h.end_is) h.left) in
+    subst (λ (ns : List Note). Did (told_by old) (past_of new.world ns) call end) (sym h.grows)
+    (subst (λ (k : Call). Did (told_by old) (past_of new.world (old.notes.items ++ h.note ∷ [])) k end) h.call_is
+    (subst (λ (e : End). Did (told_by old) (past_of new.world (old.notes.items ++ h.note ∷ [])) (call_of h.note.undo) e) h.end_is
+    (did_note old.world new.world old.notes.items h.note h.back left)))
+
+-- nothing was noted
+pub kept_told : (old new : UndoLog) → Kept old new → told_by new ≡ told_by old
+kept_told old new h =
+    ap (λ (w : World). past_of w new.notes.items) h.world ∙ ap (λ (ns : List Note). past_of old.world ns) h.notes

@@ -7,3 +7,4 @@ pub mod Stops
 pub mod Undo
 pub mod Whole
 pub mod Logged
+pub mod Numbered

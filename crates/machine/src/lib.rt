@@ -10,5 +10,6 @@ mod world;
 
 pub use calls::{CallStop, Machine, ReadStop};
 pub use law::held_joins;
+pub use memory::MemoryMachine;
 pub use reads::fill;
 pub use world::{Child, ChildClass, Ended, EnvVar, Exit, Named, RunNote, Span, Spares, World};

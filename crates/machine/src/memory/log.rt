@@ -1,8 +1,8 @@
-ghost use Rattle.std.specs.Prelude.{◌≡◌, ◌≤◌, ◌+◌, ◌*◌, ◌^◌, ◌++◌, [], ◌∷◌, Bool, true, false, length, vec_len, IsTrue, MatchBool, IfOk, OnOk, OnErr};
+ghost use Rattle.std.specs.Prelude.{◌≡◌, ◌≤◌, ◌+◌, ◌*◌, ◌^◌, ◌++◌, [], ◌∷◌, Bool, true, false, length, vec_len, IsTrue, IfOk, OnOk, OnErr};
 
 use crate::World;
 use crate::memory::changes::{
-    besides, bytes_read, copy_at, copy_range, count_at, fetch, whole_file, write,
+    besides, bytes_read, copy_at, copy_range, count_at, fetch, size_under, whole_file, write,
 };
 use crate::memory::notes::{Note, Outcome, Undo, Whole};
 use std::alloc::Global;
@@ -19,9 +19,9 @@ pub struct UndoLog {
 }
 
 impl UndoLog {
-    ghost use Rattle.machine.specs.World.{Holds, file, readable, written};
+    ghost use Rattle.machine.specs.World.{Holds, file, readable, size_of, written};
     ghost use Rattle.machine.specs.Past.{File, Size, Read, Sync, Write};
-    ghost use Rattle.machine.specs.Calls.{ReadSome};
+    ghost use Rattle.machine.specs.Calls.{IsLong, ReadSome};
     ghost use Rattle.machine.specs.Undo.{before, end_of};
     ghost use Rattle.machine.specs.Whole.{WholeFound, end_whole};
     ghost use Rattle.machine.specs.Logged.{Kept, Noted, end_if};
@@ -66,12 +66,25 @@ impl UndoLog {
     }
 
     /// The asking of a length.
-    pub fn size(&mut self, alloc: Global, path: &str, fails: bool) -> Result<(), NoMemory>
+    pub fn size(
+        &mut self,
+        alloc: Global,
+        path: &str,
+        disk: bool,
+        fails: bool,
+    ) -> Result<Option<u64>, NoMemory>
         ensures ok { OnOk result (Noted self.old self.new (Size path.now) (end_if fails)) }
+        ensures size { fails ≡ false → IfOk result (IsLong true (size_of self.old.world path.now disk)) }
         ensures err { OnErr result (Kept self.old self.new) }
     {
-        let path = Text::new(alloc, path)?;
-        self.note(Undo::Size { path }, outcome_if(fails))
+        let named = Text::new(alloc, path)?;
+        if fails {
+            self.note(Undo::Size { path: named }, Outcome::Failed)?;
+            return Ok(None);
+        }
+        let size = size_under(&self.world, path, disk);
+        self.note(Undo::Size { path: named }, Outcome::Done)?;
+        Ok(size)
     }
 
     /// A sync of a disk.
@@ -142,9 +155,11 @@ impl UndoLog {
         fails: bool,
     ) -> Result<usize, NoMemory>
         ensures ok { IfOk result (λ count. Noted self.old self.new (Read path.now count) (end_if fails)) }
-        ensures failed { IsTrue fails → (into.new ≡ into.old) × IfOk result (λ count. count ≡ 0) }
+        ensures failed { IsTrue fails → IfOk result (λ count. count ≡ 0) }
+        ensures unread { IsTrue fails → into.new ≡ into.old }
         ensures read { fails ≡ false → IfOk result (ReadSome true (readable self.old.world path.now) at into.old into.new) }
-        ensures err { OnErr result (Kept self.old self.new × (into.new ≡ into.old)) }
+        ensures err { OnErr result (Kept self.old self.new) }
+        ensures untouched { OnErr result (into.new ≡ into.old) }
     {
         let named = Text::new(alloc, path)?;
         if fails {
@@ -167,16 +182,5 @@ impl UndoLog {
             outcome: Outcome::Done,
         });
         Ok(count)
-    }
-}
-
-// The outcome of a call that is to fail, or not.
-fn outcome_if(fails: bool) -> Outcome
-    ensures { MatchBool fails (result ≡ Outcome.Failed) (result ≡ Outcome.Done) }
-{
-    if fails {
-        Outcome::Failed
-    } else {
-        Outcome::Done
     }
 }

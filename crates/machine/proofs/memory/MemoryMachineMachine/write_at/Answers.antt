@@ -1,0 +1,24 @@
+use Rattle.std.proofs.Common.{◌≡◌, ◌+◌, length, IfOk, refl, sym, subst}
+use Rattle.machine.specs.declared.world.World.{World}
+use Rattle.machine.specs.declared.memory.log.UndoLog.{UndoLog}
+use Rattle.machine.specs.World.{Holds, written}
+use Rattle.machine.specs.Past.{Write, now}
+use Rattle.machine.specs.Logged.{told_by}
+use Rattle.machine.proofs.Undoing.{now-past_of}
+use Rattle.machine.proofs.Settling.{settled_ends, settled_value}
+use Rattle.machine.proofs.memory.MemoryMachineMachine.write_at.Goals as goal
+
+pub write-noted-requires : goal.write-noted-requires
+write-noted-requires c =
+    subst (λ (w : World). Holds w c.args.path.now (c.args.at + length c.args.from.now)) (now-past_of c.args.self.now.log.world c.args.self.now.log.notes.items) (c.requires.room refl)
+
+pub returns-clause-past : goal.returns-clause-past
+returns-clause-past c = λ told.
+    settled_ends _ _ _ _ _ _ _ _ c.settle.ensures.log (Write c.args.path.now c.args.at (length c.args.from.now)) c.write-noted.result c.settle.result c.settle.ensures.answer c.write-noted.ensures.ok c.write-noted.ensures.err
+
+pub returns-clause-answer : goal.returns-clause-answer
+returns-clause-answer c = λ told.
+    subst (λ (log : UndoLog). IfOk c.settle.result (λ _. now (told_by log) ≡ written (now (told_by c.args.self.now.log)) c.args.path.now c.args.at c.args.from.now)) (sym c.settle.ensures.log)
+    (subst (λ (w : World). IfOk c.settle.result (λ _. w ≡ written (now (told_by c.args.self.now.log)) c.args.path.now c.args.at c.args.from.now)) (sym (now-past_of c.write-noted.new.self.world c.write-noted.new.self.notes.items))
+    (subst (λ (w : World). IfOk c.settle.result (λ _. c.write-noted.new.self.world ≡ written w c.args.path.now c.args.at c.args.from.now)) (sym (now-past_of c.args.self.now.log.world c.args.self.now.log.notes.items))
+    (settled_value _ _ _ _ _ c.write-noted.result c.settle.result (λ _. c.write-noted.new.self.world ≡ written c.args.self.now.log.world c.args.path.now c.args.at c.args.from.now) c.settle.ensures.answer c.write-noted.ensures.written)))
