@@ -1,9 +1,9 @@
 //! A machine in memory, which tells its world and its past.
-ghost use Rattle.std.specs.Prelude.{◌≡◌, ◌+◌, [], true, length, vec_len, IsTrue, IfOk, OnErr};
+ghost use Rattle.std.specs.Prelude.{◌≡◌, ◌+◌, ◌↔◌, [], true, length, vec_len, IsTrue, IfOk, OnErr};
 ghost use Rattle.std.specs.Result.{result_unwrap_or};
 ghost use Rattle.std.specs.FinMap as map;
 ghost use Rattle.updater_text.specs.Counts.{counted};
-ghost use Rattle.machine.specs.World.{file, readable, size_of, written};
+ghost use Rattle.machine.specs.World.{Holds, file, readable, size_of, written};
 ghost use Rattle.machine.specs.Past.{Read, Size, Sync, Write, now};
 ghost use Rattle.machine.specs.Calls.{Counted, Ends, FileCounted, FileEnds, HasRoom, IsLong, ReadSome, ReadsFile};
 ghost use Rattle.machine.specs.Logged.{told_by};
@@ -11,9 +11,12 @@ ghost use Rattle.machine.specs.Logged.{told_by};
 mod changes;
 mod log;
 mod notes;
+#[cfg(test)]
+mod tests;
 
 use crate::{CallStop, Machine, Named, ReadStop, World};
 use boot_model::Vars;
+use changes::length_of;
 use log::UndoLog;
 use notes::Whole;
 use std::alloc::Global;
@@ -73,6 +76,16 @@ impl MemoryMachine {
         ensures { result.now ≡ now (told_by self.now.log) }
     {
         &self.log.world
+    }
+
+    /// Whether the disk has room for a write up to this end.
+    pub fn has_room(&self, path: &str, end: u64) -> bool
+        ensures { IsTrue result ↔ Holds (now (told_by self.now.log)) path.now end }
+    {
+        match length_of(self.log.world.disks.as_slice(), path) {
+            Some(room) => end <= room,
+            None => false,
+        }
     }
 
     /// How often a call has failed.
