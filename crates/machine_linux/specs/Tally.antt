@@ -1,0 +1,15 @@
+-- How often calls on the system have failed or wanted memory.
+use Rattle.std.specs.Prelude.{ℕ, Result, Ok, Err}
+use Rattle.updater_text.specs.Counts.{counted}
+use Rattle.machine.specs.declared.calls.CallStop.{CallStop}
+use Rattle.machine.specs.declared.calls.CallStop.TheVariants.{Failed, NoMemory}
+
+pub record Tally : Type 0 where
+  pub faults : ℕ
+  pub wants : ℕ
+
+-- after a call with this end
+abbrev pub tally_after : {T : Type 0} → Tally → Result T CallStop → Tally
+tally_after tally (Ok x) = tally
+tally_after tally (Err Failed) = record tally { faults = counted tally.faults }
+tally_after tally (Err NoMemory) = record tally { wants = counted tally.wants }

@@ -1,0 +1,181 @@
+ghost use Rattle.std.specs.Prelude.{◌≡◌, [], IfOk, false};
+ghost use Rattle.std.specs.FinMap as map;
+ghost use Rattle.machine.specs.Past.{nothing_told};
+ghost use Rattle.machine.specs.Calls.{Counted};
+ghost use Rattle.machine_linux.specs.Reads.{PutFront};
+ghost use Rattle.machine_linux.specs.Tally.{tally_after};
+
+use crate::opened::{Opened, open};
+use crate::whole::{Found, length_of, read_whole};
+use machine::{CallStop, Machine, ReadStop};
+use std::alloc::Global;
+use std::fs::OpenOptions;
+use std::marker::Model;
+use std::os::unix::fs::FileExt;
+use std::rt::Files;
+use updater_text::Items;
+
+/// A machine over the files and devices of a system. It tells no world. Contracts see its two counts.
+///
+/// It keeps open the file that it read at an offset last, and the one that it wrote last, so that
+/// a copy of a whole image opens each once. A file is let go where a call on it fails.
+#[derive(Drop)]
+pub struct Linux<R: Files + Drop> {
+    rt: R,
+    alloc: Global,
+    source: Option<Opened<R::File>>,
+    target: Option<Opened<R::File>>,
+    faults: u64,
+    wants: u64,
+}
+
+impl<R: Files + Drop> Model for Linux<R> {
+    ghost use Rattle.machine_linux.specs.Tally.{Tally};
+
+    ghost Value = { Tally };
+
+    ghost view = { λ m. record { faults = m.faults; wants = m.wants } };
+}
+
+impl<R: Files + Drop> Linux<R> {
+    /// The machine over the runtime's files, with no call made yet. It takes no memory.
+    pub fn new(rt: R, alloc: Global) -> Linux<R>
+        ensures { result ≡ record { faults = 0; wants = 0 } }
+    {
+        Linux {
+            rt,
+            alloc,
+            source: None,
+            target: None,
+            faults: 0,
+            wants: 0,
+        }
+    }
+
+    // Counts how a call ended, and answers that.
+    fn counted<T>(&mut self, outcome: Result<T, CallStop>) -> Result<T, CallStop>
+        ensures same { result ≡ outcome }
+        ensures tally { self.new ≡ tally_after self.old outcome }
+        ensures counts { Counted self.old.faults self.new.faults self.old.wants self.new.wants result }
+    {
+        match &outcome {
+            Ok(_) => {}
+            Err(CallStop::Failed) => self.faults = self.faults.saturating_add(1),
+            Err(CallStop::NoMemory) => self.wants = self.wants.saturating_add(1),
+        }
+        outcome
+    }
+
+    // The file to read from, which is taken out; None where the path names nothing.
+    fn take_source(&mut self, path: &str) -> Result<Option<Opened<R::File>>, CallStop>
+        ensures { self.new ≡ self.old }
+    {
+        match self.source.take() {
+            Some(source) if source.is_at(path) => Ok(Some(source)),
+            _ => open(&self.rt, self.alloc, OpenOptions::new().read(true), path),
+        }
+    }
+
+    // The file to write to, which is taken out. It is not made where there is none.
+    fn take_target(&mut self, path: &str) -> Result<Opened<R::File>, CallStop>
+        ensures { self.new ≡ self.old }
+    {
+        match self.target.take() {
+            Some(target) if target.is_at(path) => Ok(target),
+            _ => {
+                let opened = open(&self.rt, self.alloc, OpenOptions::new().write(true), path)?;
+                opened.ok_or(CallStop::Failed)
+            }
+        }
+    }
+}
+
+impl<R: Files + Drop> Linux<R>
+where
+    R::File: FileExt,
+{
+    fn read_some(&mut self, path: &str, at: u64, into: &mut [u8]) -> Result<usize, CallStop>
+        ensures put { IfOk result (PutFront into.old into.new) }
+        ensures tally { self.new ≡ self.old }
+    {
+        let Some(source) = self.take_source(path)? else {
+            return Ok(0);
+        };
+        let Ok(count) = source.read_at(at, into) else {
+            return Err(CallStop::Failed);
+        };
+        self.source = Some(source);
+        Ok(count)
+    }
+
+    fn write_all(&mut self, path: &str, at: u64, from: &[u8]) -> Result<(), CallStop>
+        ensures { self.new ≡ self.old }
+    {
+        let target = self.take_target(path)?;
+        if target.write_at(at, from).is_err() {
+            return Err(CallStop::Failed);
+        }
+        self.target = Some(target);
+        Ok(())
+    }
+
+    fn sync_target(&mut self, path: &str) -> Result<(), CallStop>
+        ensures { self.new ≡ self.old }
+    {
+        let target = self.take_target(path)?;
+        if target.sync().is_err() {
+            return Err(CallStop::Failed);
+        }
+        self.target = Some(target);
+        Ok(())
+    }
+}
+
+impl<R: Files + Drop> Machine for Linux<R>
+where
+    R::File: FileExt,
+{
+    ghost tells = { false };
+
+    ghost past = { λ _. nothing_told (record { disks = []; pending = []; writes = []; files = []; vars = map.empty; runs = []; fetched = 0 }) };
+
+    ghost faults = { λ m. m.faults };
+
+    ghost wants = { λ m. m.wants };
+
+    fn file_read(
+        &mut self,
+        alloc: Global,
+        path: &str,
+        limit: u64,
+    ) -> Result<Option<Items<u8>>, ReadStop> {
+        let outcome = read_whole(&self.rt, alloc, path, limit);
+        match self.counted(outcome) {
+            Ok(Found::Missing) => Ok(None),
+            Ok(Found::Whole(bytes)) => Ok(Some(bytes)),
+            Ok(Found::TooLong(length)) => Err(ReadStop::TooLong { length }),
+            Err(CallStop::Failed) => Err(ReadStop::Failed),
+            Err(CallStop::NoMemory) => Err(ReadStop::NoMemory),
+        }
+    }
+
+    fn size(&mut self, path: &str, _disk: bool) -> Result<Option<u64>, CallStop> {
+        let outcome = length_of(&self.rt, path);
+        self.counted(outcome)
+    }
+
+    fn read_at(&mut self, path: &str, at: u64, into: &mut [u8]) -> Result<usize, CallStop> {
+        let outcome = self.read_some(path, at, into);
+        self.counted(outcome)
+    }
+
+    fn write_at(&mut self, path: &str, at: u64, from: &[u8]) -> Result<(), CallStop> {
+        let outcome = self.write_all(path, at, from);
+        self.counted(outcome)
+    }
+
+    fn sync(&mut self, path: &str) -> Result<(), CallStop> {
+        let outcome = self.sync_target(path);
+        self.counted(outcome)
+    }
+}

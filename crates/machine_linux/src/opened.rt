@@ -1,0 +1,91 @@
+ghost use Rattle.std.specs.Prelude.{IfOk};
+ghost use Rattle.machine_linux.specs.Reads.{PutFront};
+
+use machine::CallStop;
+use std::alloc::Global;
+use std::fs::{OpenFile, OpenOptions};
+use std::io;
+use std::io::{ErrorKind, Seek, SeekFrom};
+use std::os::unix::fs::FileExt;
+use std::rt::Files;
+use updater_text::Text;
+
+// How much a read past the known length takes.
+const TAIL: usize = 4096;
+
+// A file that stays open between calls.
+#[derive(Drop)]
+pub struct Opened<F> {
+    path: Text,
+    file: F,
+    // its length when it was opened, or 0 where the system tells none
+    length: u64,
+}
+
+// Whether the error tells that the path names nothing.
+pub fn names_nothing(error: &io::Error) -> bool {
+    matches!(error.kind(), ErrorKind::NotFound | ErrorKind::NotADirectory)
+}
+
+// Opens a file; None where the path names nothing.
+pub fn open<R: Files>(
+    rt: &R,
+    alloc: Global,
+    how: &OpenOptions,
+    path: &str,
+) -> Result<Option<Opened<R::File>>, CallStop> {
+    let mut file = match how.open(rt, path) {
+        Ok(file) => file,
+        Err(error) if names_nothing(&error) => return Ok(None),
+        Err(_) => return Err(CallStop::Failed),
+    };
+    let Ok(path) = Text::new(alloc, path) else {
+        return Err(CallStop::NoMemory);
+    };
+    let length = file.seek(SeekFrom::End(0)).unwrap_or(0);
+    Ok(Some(Opened { path, file, length }))
+}
+
+impl<F> Opened<F> {
+    // Whether it was opened at this path.
+    pub fn is_at(&self, path: &str) -> bool {
+        self.path.as_str() == path
+    }
+}
+
+impl<F: FileExt> Opened<F> {
+    // Reads bytes from `at` on into the front of `into`. None come only where the system gives none.
+    pub fn read_at(&self, at: u64, into: &mut [u8]) -> io::Result<usize>
+        ensures { IfOk result (PutFront into.old into.new) }
+    {
+        let known = self.length.saturating_sub(at).min(into.len() as u64) as usize;
+        if known == 0 {
+            return self.read_tail(at, into);
+        }
+        self.file.read_exact_at(&mut into[..known], at)?;
+        Ok(known)
+    }
+
+    // The same where no length is known. A read may change its whole buffer, so it has one of its own.
+    fn read_tail(&self, at: u64, into: &mut [u8]) -> io::Result<usize>
+        ensures { IfOk result (PutFront into.old into.new) }
+    {
+        let mut tail = [0; TAIL];
+        let wanted = into.len().min(TAIL);
+        let count = self.file.read_at(&mut tail[..wanted], at)?;
+        into[..count].copy_from_slice(&tail[..count]);
+        Ok(count)
+    }
+
+    // Writes all the bytes from `at` on.
+    pub fn write_at(&self, at: u64, from: &[u8]) -> io::Result<()> {
+        self.file.write_all_at(from, at)
+    }
+}
+
+impl<F: OpenFile> Opened<F> {
+    // Waits until what was written has reached the device.
+    pub fn sync(&self) -> io::Result<()> {
+        self.file.sync_all()
+    }
+}
