@@ -15,6 +15,9 @@ use std::os::unix::fs::FileExt;
 use std::rt::Files;
 use updater_text::Items;
 
+#[cfg(test)]
+mod tests;
+
 /// A machine over the files and devices of a system. It tells no world. Contracts see its two counts.
 ///
 /// It keeps open the file that it read at an offset last, and the one that it wrote last, so that
