@@ -1,7 +1,13 @@
 -- What reading gives.
-use Rattle.std.specs.Prelude.{◌≡◌, ◌≤◌, ◌<◌, ℕ, List, length, drop}
+use Rattle.std.specs.Prelude.{◌≡◌, ◌≤◌, ◌⊎◌, ◌<◌, ℕ, List, length, drop}
+use Rattle.std.specs.declared.io.ErrorKind.{ErrorKind}
+use Rattle.std.specs.declared.io.ErrorKind.TheVariants.{NotFound, NotADirectory}
 use Rattle.machine_linux.specs.declared.whole.Found.{Found}
 use Rattle.machine_linux.specs.declared.whole.Found.TheVariants.{Missing, Whole, TooLong}
+
+-- an error of these kinds tells that a path names nothing
+abbrev pub NamesNothing : ErrorKind → Type 0
+NamesNothing kind = (kind ≡ NotFound) ⊎ (kind ≡ NotADirectory)
 
 -- so many bytes were put at the front of a buffer, whose rest is as it was
 pub record PutFront (before after : List ℕ) (count : ℕ) : Type 0 where

@@ -1,4 +1,4 @@
-ghost use Rattle.std.specs.Prelude.{◌≡◌, [], IfOk, false};
+ghost use Rattle.std.specs.Prelude.{◌≡◌, [], IfOk, IfSome, false};
 ghost use Rattle.std.specs.FinMap as map;
 ghost use Rattle.machine.specs.Past.{nothing_told};
 ghost use Rattle.machine.specs.Calls.{Counted};
@@ -71,7 +71,8 @@ impl<R: Files + Drop> Linux<R> {
 
     // The file to read from, which is taken out; None where the path names nothing.
     fn take_source(&mut self, path: &str) -> Result<Option<Opened<R::File>>, CallStop>
-        ensures { self.new ≡ self.old }
+        ensures place { IfOk result (λ found. IfSome found (λ opened. opened.path ≡ path.now)) }
+        ensures tally { self.new ≡ self.old }
     {
         match self.source.take() {
             Some(source) if source.is_at(path) => Ok(Some(source)),
@@ -81,7 +82,8 @@ impl<R: Files + Drop> Linux<R> {
 
     // The file to write to, which is taken out. It is not made where there is none.
     fn take_target(&mut self, path: &str) -> Result<Opened<R::File>, CallStop>
-        ensures { self.new ≡ self.old }
+        ensures place { IfOk result (λ opened. opened.path ≡ path.now) }
+        ensures tally { self.new ≡ self.old }
     {
         match self.target.take() {
             Some(target) if target.is_at(path) => Ok(target),

@@ -1,5 +1,6 @@
-ghost use Rattle.std.specs.Prelude.{IfOk};
-ghost use Rattle.machine_linux.specs.Reads.{PutFront};
+ghost use Rattle.std.specs.Prelude.{◌≡◌, ◌↔◌, IfOk, IfSome, IsTrue};
+ghost use Rattle.std.specs.IoError.{error_kind};
+ghost use Rattle.machine_linux.specs.Reads.{NamesNothing, PutFront};
 
 use machine::CallStop;
 use std::alloc::Global;
@@ -23,7 +24,9 @@ pub struct Opened<F> {
 }
 
 // Whether the error tells that the path names nothing.
-pub fn names_nothing(error: &io::Error) -> bool {
+pub fn names_nothing(error: &io::Error) -> bool
+    ensures { IsTrue result ↔ NamesNothing (error_kind error.now) }
+{
     matches!(error.kind(), ErrorKind::NotFound | ErrorKind::NotADirectory)
 }
 
@@ -33,7 +36,9 @@ pub fn open<R: Files>(
     alloc: Global,
     how: &OpenOptions,
     path: &str,
-) -> Result<Option<Opened<R::File>>, CallStop> {
+) -> Result<Option<Opened<R::File>>, CallStop>
+    ensures { IfOk result (λ found. IfSome found (λ opened. opened.path ≡ path.now)) }
+{
     let mut file = match how.open(rt, path) {
         Ok(file) => file,
         Err(error) if names_nothing(&error) => return Ok(None),
@@ -48,7 +53,9 @@ pub fn open<R: Files>(
 
 impl<F> Opened<F> {
     // Whether it was opened at this path.
-    pub fn is_at(&self, path: &str) -> bool {
+    pub fn is_at(&self, path: &str) -> bool
+        ensures { IsTrue result ↔ (self.now.path ≡ path.now) }
+    {
         self.path.as_str() == path
     }
 }
