@@ -101,30 +101,30 @@ put_kept command slot image device (Ok written) w u h = h
 put_kept command slot image device (Err refusal) w u h = h
 
 module _ (t : Bool) (command : Command) (slot image device : List ℕ) (answer : Result SlotWritten SlotRefusal) (a b : Past) where
-  abbrev plan : Plan
-  plan = slot_plan command slot image device answer
+  abbrev aim : Plan
+  aim = slot_plan command slot image device answer
 
-  keeps : (IsTrue t → Always a b (PutKept device answer (now a))) → IsTrue t → Always a b (Kept plan (now a))
-  keeps kept told = always_weaker a b (PutKept device answer (now a)) (Kept plan (now a)) (λ u h. put_kept command slot image device answer (now a) u h) (kept told)
+  keeps : (IsTrue t → Always a b (PutKept device answer (now a))) → IsTrue t → Always a b (Kept aim (now a))
+  keeps kept told = always_weaker a b (PutKept device answer (now a)) (Kept aim (now a)) (λ u h. put_kept command slot image device answer (now a) u h) (kept told)
 
   pub ended_slot : (written : Result SlotWritten (Stop SlotRefusal)) (result : Result Report NoMemory) → Puts t image device answer a b written → SlotSays command slot written result → Ended t (slot_plan command slot image device answer) a b result
   ended_slot (Ok written) (Ok report) puts says = record {
     kept = keeps puts.kept;
-    reported = λ told. says ∙ sym (ap (λ (r : Result SlotWritten SlotRefusal). report_of (slot_plan command slot image device r) None) (puts.answers told)) ∙ sym (ap (report_of plan) (puts.fails.first told));
+    reported = λ told. says ∙ sym (ap (λ (r : Result SlotWritten SlotRefusal). report_of (slot_plan command slot image device r) None) (puts.answers told)) ∙ sym (ap (report_of aim) (puts.fails.first told));
     left = λ told none. subst (λ (r : Result SlotWritten SlotRefusal). Left (slot_plan command slot image device r) (now a) (now b)) (sym (puts.answers told)) (puts.left told);
   }
   ended_slot (Err (stop.Refused refusal)) (Ok report) puts says = record {
     kept = keeps puts.kept;
-    reported = λ told. says ∙ sym (ap (λ (r : Result SlotWritten SlotRefusal). report_of (slot_plan command slot image device r) None) (puts.answers told)) ∙ sym (ap (report_of plan) (puts.fails.first told));
+    reported = λ told. says ∙ sym (ap (λ (r : Result SlotWritten SlotRefusal). report_of (slot_plan command slot image device r) None) (puts.answers told)) ∙ sym (ap (report_of aim) (puts.fails.first told));
     left = λ told none. subst (λ (r : Result SlotWritten SlotRefusal). Left (slot_plan command slot image device r) (now a) (now b)) (sym (puts.answers told)) (subst (λ (r : Result SlotWritten SlotRefusal). PutKept device r (now a) (now b)) (puts.answers told) (always_now a b (PutKept device answer (now a)) (puts.kept told)));
   }
   ended_slot (Err (stop.Outside kind)) (Ok report) puts says = record {
     kept = keeps puts.kept;
-    reported = λ told. says ∙ sym (report_outside plan kind) ∙ sym (ap (report_of plan) (puts.fails.first told));
+    reported = λ told. says ∙ sym (report_outside aim kind) ∙ sym (ap (report_of aim) (puts.fails.first told));
     left = λ told none. absurd (some_none kind (sym (puts.fails.first told) ∙ none));
   }
   ended_slot (Err stop.NoMemory) (Ok report) puts says = absurd says
-  ended_slot written (Err memory) puts says = ended_memory t plan a b memory (keeps puts.kept)
+  ended_slot written (Err memory) puts says = ended_memory t aim a b memory (keeps puts.kept)
 
 -- the configuration's file
 conf_long : (bytes : List ℕ) → 1048576 < length bytes → conf_of bytes ≡ Err (bad.Key (key.TooLong (length bytes)))
