@@ -13,3 +13,6 @@ pub use conf::{BadConf, ConfRefusal, Slot, System, read_conf, slot_named};
 pub use outcome::{Finish, Outcome, SlotRefusal, SlotWritten};
 pub use run::rauc;
 pub use slots::write_slot;
+
+#[cfg(test)]
+mod tests;
