@@ -1,21 +1,27 @@
 -- What the map of maps holds, as the list of groups.
-use Rattle.std.proofs.Common.{◌≡◌, ◌∙◌, ◌-◌, ap, sym, refl, ℕ, zero, suc, Bool, true, false, ◌||◌, cond, List, [], ◌∷◌, ◌++◌, length, Some, None, if◌then◌else◌, option_map, option_and_then, find, is_some, slice_get, arith}
+use Rattle.std.proofs.Common.{◌≡◌, ◌∙◌, ◌-◌, ap, sym, refl, ℕ, zero, suc, Bool, true, false, ◌||◌, not, cond, List, [], ◌∷◌, ◌++◌, length, Some, None, if◌then◌else◌, option_map, option_and_then, find, is_some, slice_get, position, ◌+◌, arith}
 use Rattle.std.specs.String.{string_bytes, string_eq}
 use Rattle.std.specs.Str.{bytes_eq}
-use Rattle.std.specs.Map.{lookup, values_of}
+use Rattle.std.specs.Map.{keys_of, lookup, set_value, values_of}
 use Rattle.std.specs.declared.alloc.Global.{Global}
 use Rattle.std.specs.declared.hash.FoldHasher.{FoldHasher}
 use Rattle.std.specs.declared.hash.BuildHasherDefault.{BuildHasherDefault}
 use Rattle.std.specs.declared.string.String.{String}
+use Rattle.std.specs.List.{position_or_len}
+use Rattle.std.specs.Prelude.{nat_lt}
+use Rattle.std.proofs.lemmas.Bool.{false≢true}
 use Rattle.std.proofs.lemmas.Option.{slice_get-map}
 use Rattle.indexmap.specs.IndexMap.{IndexMap, insert_entry, set_value_at}
-use Rattle.keyfile.specs.Groups.{Text, Entry, Group, entries_in, entry_at, get_entry, get_in, groups_in, has_group, has_key, with_entry, with_group}
+use Rattle.keyfile.specs.Groups.{Text, Entry, Group, entries_in, entry_at, get_entry, get_in, groups_in, has_group, put_at, put_entry, put_in, opened, place_of}
 
 abbrev pub Name : Type 0
 Name = String Global
 
 abbrev pub Inner : Type 0
 Inner = IndexMap Name Name (BuildHasherDefault FoldHasher)
+
+abbrev pub Outer : Type 0
+Outer = IndexMap Name Inner (BuildHasherDefault FoldHasher)
 
 -- the test of a look-up by text
 abbrev pub is_named : Text → Name → Bool
@@ -49,40 +55,49 @@ has_group-lookup (e ∷ es) g = go (has_group-lookup es g) (is_named g e.0)
     go more true = refl
     go more false = more
 
-pub has_key-lookup : (es : List (Name × Name)) (k : Text) → has_key (entries_in es) k ≡ is_some (lookup (is_named k) es)
-has_key-lookup [] k = refl
-has_key-lookup (e ∷ es) k = go (has_key-lookup es k) (is_named k e.0)
-  where
-    go : has_key (entries_in es) k ≡ is_some (lookup (is_named k) es) → (b : Bool) → (b || has_key (entries_in es) k) ≡ is_some (cond b (Some e.1) (lookup (is_named k) es))
-    go more true = refl
-    go more false = more
-
 -- the entry at places
 pub entry_at-get : (es : List (Name × Inner)) (g at : ℕ) → entry_at (groups_in es) g at ≡ option_and_then (λ (e : Name × Inner). option_map (λ (p : Name × Name). (string_bytes p.0, string_bytes p.1)) (slice_get e.1.entries at)) (slice_get es g)
 entry_at-get [] g at = refl
 entry_at-get (e ∷ es) zero at = slice_get-map (λ (p : Name × Name). (string_bytes p.0, string_bytes p.1)) e.1.entries at
 entry_at-get (e ∷ es) (suc g) at = entry_at-get es g at
 
+-- the place of a name
+pub place_of-keys : (es : List (Name × Inner)) (n : Text) → place_of (groups_in es) n ≡ position_or_len (is_named n) (keys_of es)
+place_of-keys [] n = refl
+place_of-keys (e ∷ es) n = ap (λ (i : ℕ). cond (not (is_named n e.0)) (1 + i) 0) (place_of-keys es n)
+
+pub position-found : (es : List (Name × Inner)) (n : Text) (at : ℕ) → Some at ≡ position (is_named n) (keys_of es) → at ≡ place_of (groups_in es) n
+position-found es n at found = go (nat_lt (position_or_len (is_named n) (keys_of es)) (length (keys_of es))) found ∙ sym (place_of-keys es n)
+  where
+    go : (b : Bool) → Some at ≡ cond b (Some (position_or_len (is_named n) (keys_of es))) None → at ≡ position_or_len (is_named n) (keys_of es)
+    go true h = cc
+    go false h = cc
+
+pub place_of-new : (gs : List Group) (n : Text) → has_group gs n ≡ false → place_of gs n ≡ length gs
+place_of-new [] n new = refl
+place_of-new (g ∷ gs) n new = go (place_of-new gs n) (bytes_eq n g.0) new
+  where
+    next : 1 + length gs ≡ suc (length gs)
+    next = omega arith
+
+    go : (has_group gs n ≡ false → place_of gs n ≡ length gs) → (b : Bool) → (b || has_group gs n) ≡ false → cond (not b) (1 + place_of gs n) 0 ≡ suc (length gs)
+    go deep true h = absurd (false≢true (sym h))
+    go deep false h = ap (λ (i : ℕ). 1 + i) (deep h) ∙ next
+
 -- ---- changes
 
-pub with_group-there : (gs : List Group) (name : Text) → has_group gs name ≡ true → with_group gs name ≡ None
-with_group-there gs name there = ap (λ (b : Bool). if b then None else Some (gs ++ (name, []) ∷ [])) there
-
-pub with_group-new : (gs : List Group) (name : Text) → has_group gs name ≡ false → with_group gs name ≡ Some (gs ++ (name, []) ∷ [])
-with_group-new gs name free = ap (λ (b : Bool). if b then None else Some (gs ++ (name, []) ∷ [])) free
-
--- a new key goes last
-pub entries_in-insert_entry : (es : List (Name × Name)) (k v : Name) → has_key (entries_in es) (string_bytes k) ≡ false → entries_in (insert_entry string_eq es k v) ≡ entries_in es ++ (string_bytes k, string_bytes v) ∷ []
-entries_in-insert_entry [] k v new = refl
-entries_in-insert_entry (e ∷ es) k v new = go (entries_in-insert_entry es k v) (string_eq k e.0) new
+-- a key that is there keeps its place, and a new one goes last
+pub entries_in-insert_entry : (es : List (Name × Name)) (k v : Name) → entries_in (insert_entry string_eq es k v) ≡ put_entry (entries_in es) (string_bytes k) (string_bytes v)
+entries_in-insert_entry [] k v = refl
+entries_in-insert_entry (e ∷ es) k v = go (entries_in-insert_entry es k v) (string_eq k e.0)
   where
-    go : (has_key (entries_in es) (string_bytes k) ≡ false → entries_in (insert_entry string_eq es k v) ≡ entries_in es ++ (string_bytes k, string_bytes v) ∷ [])
-        → (b : Bool) → (b || has_key (entries_in es) (string_bytes k)) ≡ false
-        → entries_in (if b then (e.0, v) ∷ es else e ∷ insert_entry string_eq es k v) ≡ (string_bytes e.0, string_bytes e.1) ∷ (entries_in es ++ (string_bytes k, string_bytes v) ∷ [])
-    go more true new = cc
-    go more false new = ap (λ (t : List Entry). (string_bytes e.0, string_bytes e.1) ∷ t) (more new)
+    go : entries_in (insert_entry string_eq es k v) ≡ put_entry (entries_in es) (string_bytes k) (string_bytes v)
+        → (b : Bool) → entries_in (if b then (e.0, v) ∷ es else e ∷ insert_entry string_eq es k v)
+        ≡ (if b then (string_bytes e.0, string_bytes v) ∷ entries_in es else (string_bytes e.0, string_bytes e.1) ∷ put_entry (entries_in es) (string_bytes k) (string_bytes v))
+    go more true = refl
+    go more false = ap (λ (t : List Entry). (string_bytes e.0, string_bytes e.1) ∷ t) more
 
--- and so does a new group
+-- a new group goes last
 pub groups_in-insert_entry : (es : List (Name × Inner)) (name : Name) (m : Inner) → has_group (groups_in es) (string_bytes name) ≡ false → groups_in (insert_entry string_eq es name m) ≡ groups_in es ++ (string_bytes name, entries_in m.entries) ∷ []
 groups_in-insert_entry [] name m new = refl
 groups_in-insert_entry (e ∷ es) name m new = go (groups_in-insert_entry es name m) (string_eq name e.0) new
@@ -90,48 +105,82 @@ groups_in-insert_entry (e ∷ es) name m new = go (groups_in-insert_entry es nam
     go : (has_group (groups_in es) (string_bytes name) ≡ false → groups_in (insert_entry string_eq es name m) ≡ groups_in es ++ (string_bytes name, entries_in m.entries) ∷ [])
         → (b : Bool) → (b || has_group (groups_in es) (string_bytes name)) ≡ false
         → groups_in (if b then (e.0, m) ∷ es else e ∷ insert_entry string_eq es name m) ≡ (string_bytes e.0, entries_in e.1.entries) ∷ (groups_in es ++ (string_bytes name, entries_in m.entries) ∷ [])
-    go more true new = cc
+    go more true new = absurd (false≢true (sym new))
     go more false new = ap (λ (t : List Group). (string_bytes e.0, entries_in e.1.entries) ∷ t) (more new)
 
--- where there is a last one, there is one
-pub last_within : (es : List (Name × Inner)) (old : Inner) → Some old ≡ slice_get (values_of es) (length es - 1) → length es ≡ suc (length es - 1)
-last_within [] old last = cc
-last_within (e ∷ es) old last = omega arith
-
--- the last group takes an entry
-pub with_entry-last : (es : List (Name × Inner)) (at : ℕ) (k v : Text) (old new : Inner) → length es ≡ suc at → Some old ≡ slice_get (values_of es) at → has_key (entries_in old.entries) k ≡ false
-    → entries_in new.entries ≡ entries_in old.entries ++ (k, v) ∷ [] → with_entry (groups_in es) k v ≡ Some (groups_in (set_value_at es at new))
-with_entry-last [] at k v old new long last free more = cc
-with_entry-last (e ∷ []) zero k v old new long last free more =
+-- a write to the group at a place
+pub groups_in-set_value_at : (es : List (Name × Inner)) (at : ℕ) (k v : Text) (old new : Inner) → Some old ≡ slice_get (values_of es) at
+    → entries_in new.entries ≡ put_entry (entries_in old.entries) k v → groups_in (set_value_at es at new) ≡ put_at (groups_in es) at k v
+groups_in-set_value_at [] at k v old new found put = cc
+groups_in-set_value_at (e ∷ es) zero k v old new found put =
     let is : old ≡ e.1 = cc in
-    let free' : has_key (entries_in e.1.entries) k ≡ false = ap (λ (m : Inner). has_key (entries_in m.entries) k) (sym is) ∙ free in
-    let more' : entries_in new.entries ≡ entries_in e.1.entries ++ (k, v) ∷ [] = more ∙ ap (λ (m : Inner). entries_in m.entries ++ (k, v) ∷ []) is in
-    ap (λ (b : Bool). if b then None else Some ((string_bytes e.0, entries_in e.1.entries ++ (k, v) ∷ []) ∷ [])) free'
-    ∙ ap (λ (t : List Entry). Some ((string_bytes e.0, t) ∷ [])) (sym more')
-with_entry-last (e ∷ []) (suc at) k v old new long last free more = absurd (omega arith)
-with_entry-last (e ∷ f ∷ es) zero k v old new long last free more = absurd (omega arith)
-with_entry-last (e ∷ f ∷ es) (suc at) k v old new long last free more = ap (option_map (λ (groups : List Group). (string_bytes e.0, entries_in e.1.entries) ∷ groups)) (with_entry-last (f ∷ es) at k v old new (omega arith) last free more)
+    ap (λ (t : List Entry). (string_bytes e.0, t) ∷ groups_in es) (put ∙ ap (λ (m : Inner). put_entry (entries_in m.entries) k v) is)
+groups_in-set_value_at (e ∷ es) (suc at) k v old new found put = ap (λ (t : List Group). (string_bytes e.0, entries_in e.1.entries) ∷ t) (groups_in-set_value_at es at k v old new found put)
 
--- or has the key
-pub with_entry-there : (es : List (Name × Inner)) (at : ℕ) (k v : Text) (old : Inner) → length es ≡ suc at → Some old ≡ slice_get (values_of es) at → has_key (entries_in old.entries) k ≡ true
-    → with_entry (groups_in es) k v ≡ None
-with_entry-there [] at k v old long last there = cc
-with_entry-there (e ∷ []) zero k v old long last there =
-    let is : old ≡ e.1 = cc in
-    ap (λ (b : Bool). if b then None else Some ((string_bytes e.0, entries_in e.1.entries ++ (k, v) ∷ []) ∷ [])) (ap (λ (m : Inner). has_key (entries_in m.entries) k) (sym is) ∙ there)
-with_entry-there (e ∷ []) (suc at) k v old long last there = absurd (omega arith)
-with_entry-there (e ∷ f ∷ es) zero k v old long last there = absurd (omega arith)
-with_entry-there (e ∷ f ∷ es) (suc at) k v old long last there = ap (option_map (λ (groups : List Group). (string_bytes e.0, entries_in e.1.entries) ∷ groups)) (with_entry-there (f ∷ es) at k v old (omega arith) last there)
-
--- or there is none
-pub with_entry-nowhere : (es : List (Name × Inner)) (k v : Text) → length es ≡ 0 → with_entry (groups_in es) k v ≡ None
-with_entry-nowhere [] k v none = refl
-with_entry-nowhere (e ∷ es) k v none = absurd (omega arith)
+pub put_at-nowhere : (es : List (Name × Inner)) (at : ℕ) (k v : Text) → None ≡ slice_get (values_of es) at → put_at (groups_in es) at k v ≡ groups_in es
+put_at-nowhere [] at k v none = refl
+put_at-nowhere (e ∷ es) zero k v none = cc
+put_at-nowhere (e ∷ es) (suc at) k v none = ap (λ (t : List Group). (string_bytes e.0, entries_in e.1.entries) ∷ t) (put_at-nowhere es at k v none)
 
 -- what is written is what was there
-pub groups_in-set_same : (es : List (Name × Inner)) (at : ℕ) (old new : Inner) → Some old ≡ slice_get (values_of es) at → new.entries ≡ old.entries → groups_in (set_value_at es at new) ≡ groups_in es
-groups_in-set_same [] at old new found same = refl
-groups_in-set_same (e ∷ es) zero old new found same =
+pub groups_in-set_same_at : (es : List (Name × Inner)) (at : ℕ) (old new : Inner) → Some old ≡ slice_get (values_of es) at → new.entries ≡ old.entries → groups_in (set_value_at es at new) ≡ groups_in es
+groups_in-set_same_at [] at old new found same = refl
+groups_in-set_same_at (e ∷ es) zero old new found same =
     let is : old ≡ e.1 = cc in
     ap (λ (t : List (Name × Name)). (string_bytes e.0, entries_in t) ∷ groups_in es) (same ∙ ap (λ (m : Inner). m.entries) is)
-groups_in-set_same (e ∷ es) (suc at) old new found same = ap (λ (t : List Group). (string_bytes e.0, entries_in e.1.entries) ∷ t) (groups_in-set_same es at old new found same)
+groups_in-set_same_at (e ∷ es) (suc at) old new found same = ap (λ (t : List Group). (string_bytes e.0, entries_in e.1.entries) ∷ t) (groups_in-set_same_at es at old new found same)
+
+-- a write to the group of a name
+pub groups_in-set_value : (es : List (Name × Inner)) (g k v : Text) (old new : Inner) → Some old ≡ lookup (is_named g) es
+    → entries_in new.entries ≡ put_entry (entries_in old.entries) k v
+    → groups_in (set_value (is_named g) es new) ≡ put_at (groups_in es) (place_of (groups_in es) g) k v
+groups_in-set_value [] g k v old new found put = cc
+groups_in-set_value (e ∷ es) g k v old new found put = go (λ h. groups_in-set_value es g k v old new h put) (is_named g e.0) found
+  where
+    next : 1 + place_of (groups_in es) g ≡ suc (place_of (groups_in es) g)
+    next = omega arith
+
+    go : (Some old ≡ lookup (is_named g) es → groups_in (set_value (is_named g) es new) ≡ put_at (groups_in es) (place_of (groups_in es) g) k v)
+        → (b : Bool) → Some old ≡ cond b (Some e.1) (lookup (is_named g) es)
+        → groups_in (cond b ((e.0, new) ∷ es) (e ∷ set_value (is_named g) es new))
+        ≡ put_at ((string_bytes e.0, entries_in e.1.entries) ∷ groups_in es) (cond (not b) (1 + place_of (groups_in es) g) 0) k v
+    go more true h =
+        let is : old ≡ e.1 = cc in
+        ap (λ (t : List Entry). (string_bytes e.0, t) ∷ groups_in es) (put ∙ ap (λ (m : Inner). put_entry (entries_in m.entries) k v) is)
+    go more false h =
+        ap (λ (t : List Group). (string_bytes e.0, entries_in e.1.entries) ∷ t) (more h)
+        ∙ sym (ap (λ (i : ℕ). put_at ((string_bytes e.0, entries_in e.1.entries) ∷ groups_in es) i k v) next)
+
+-- what is written is what was there
+pub groups_in-set_same : (es : List (Name × Inner)) (g : Text) (old new : Inner) → Some old ≡ lookup (is_named g) es
+    → new.entries ≡ old.entries → groups_in (set_value (is_named g) es new) ≡ groups_in es
+groups_in-set_same [] g old new found same = refl
+groups_in-set_same (e ∷ es) g old new found same = go (λ h. groups_in-set_same es g old new h same) (is_named g e.0) found
+  where
+    go : (Some old ≡ lookup (is_named g) es → groups_in (set_value (is_named g) es new) ≡ groups_in es)
+        → (b : Bool) → Some old ≡ cond b (Some e.1) (lookup (is_named g) es)
+        → groups_in (cond b ((e.0, new) ∷ es) (e ∷ set_value (is_named g) es new)) ≡ (string_bytes e.0, entries_in e.1.entries) ∷ groups_in es
+    go more true h =
+        let is : old ≡ e.1 = cc in
+        ap (λ (t : List (Name × Name)). (string_bytes e.0, entries_in t) ∷ groups_in es) (same ∙ ap (λ (m : Inner). m.entries) is)
+    go more false h = ap (λ (t : List Group). (string_bytes e.0, entries_in e.1.entries) ∷ t) (more h)
+
+-- the groups with one of a name
+pub opened-there : (gs : List Group) (n : Text) → has_group gs n ≡ true → opened gs n ≡ gs
+opened-there gs n there = ap (λ (b : Bool). if b then gs else gs ++ (n, []) ∷ []) there
+
+pub opened-new : (gs : List Group) (n : Text) → has_group gs n ≡ false → opened gs n ≡ gs ++ (n, []) ∷ []
+opened-new gs n new = ap (λ (b : Bool). if b then gs else gs ++ (n, []) ∷ []) new
+
+-- the last group takes an entry
+pub put_at-last : (gs : List Group) (n : Text) (es : List Entry) (k v : Text) → put_at (gs ++ (n, es) ∷ []) (length gs) k v ≡ gs ++ (n, put_entry es k v) ∷ []
+put_at-last [] n es k v = refl
+put_at-last (g ∷ gs) n es k v = ap (λ (t : List Group). g ∷ t) (put_at-last gs n es k v)
+
+pub put_in-there : (gs : List Group) (n k v : Text) → has_group gs n ≡ true → put_in gs n k v ≡ put_at gs (place_of gs n) k v
+put_in-there gs n k v there = ap (λ (t : List Group). put_at t (place_of gs n) k v) (opened-there gs n there)
+
+pub put_in-new : (gs : List Group) (n k v : Text) → has_group gs n ≡ false → put_in gs n k v ≡ gs ++ (n, (k, v) ∷ []) ∷ []
+put_in-new gs n k v new =
+    ap (λ (t : List Group). put_at t (place_of gs n) k v) (opened-new gs n new)
+    ∙ (ap (λ (i : ℕ). put_at (gs ++ (n, []) ∷ []) i k v) (place_of-new gs n new) ∙ put_at-last gs n [] k v)

@@ -1,140 +1,158 @@
 -- Lines read one after another.
-use Rattle.std.proofs.Common.{◌≡◌, ◌∙◌, ◌+◌, ap, sym, refl, subst, ℕ, suc, ◌<◌, map, drop, get_or, drop-cons, Bool, true, false, not, cond, List, [], ◌∷◌, ◌++◌, length, take, Option, Some, None, Result, Ok, Err, is_some, find, option_map, if◌then◌else◌, arith, append_assoc, length-append}
-use Rattle.std.proofs.lemmas.List.{append-nil, drop_all}
+use Rattle.std.proofs.Common.{◌≡◌, ◌∙◌, ◌+◌, ◌<◌, ◌⊎◌, inl, inr, ap, sym, refl, subst, ℕ, suc, Bool, true, false, ◌||◌, cond, List, [], ◌∷◌, ◌++◌, length, take, drop, map, get_or, Option, Some, None, Result, Ok, Err, is_some, option_map, if◌then◌else◌, arith, append_assoc, length-append, drop-cons}
+use Rattle.std.specs.Prelude.{filter_map, unwrap_or}
 use Rattle.std.proofs.Math.Seq.{take-append_seam}
-use Rattle.std.specs.List.{drop-map, enumerate_from}
-use Rattle.keyfile.specs.Groups.{Text, Entry, Group, has_group, has_key, with_entry}
+use Rattle.std.proofs.lemmas.Bool.{false≢true}
+use Rattle.std.proofs.lemmas.List.{append-nil, drop_all, map-append}
+use Rattle.std.specs.List.{cons_option, drop-map, enumerate_from, position_or_len}
+use Rattle.std.specs.Str.{bytes_eq}
+use Rattle.keyfile.proofs.Distinct.{equal_text, is_in}
+use Rattle.keyfile.proofs.Merging.{grouped-entry, grouped-heading, place_of-grouped, position-placed}
+use Rattle.keyfile.specs.Escapes.{unescaped}
+use Rattle.keyfile.specs.Groups.{Text, Entry, Group, opened, place_of, put_at}
 use Rattle.keyfile.specs.Lines.{Line, nothing, heading, entry, bad, line_of}
-use Rattle.keyfile.specs.Reading.{first_entries, groups_of, is_in_order, read_lines_of, unless_bad, with_line}
-use Rattle.keyfile.specs.declared.reading.KeyFault.{KeyFault}
-use Rattle.keyfile.specs.declared.reading.KeyFault.TheVariants as fault
+use Rattle.keyfile.specs.Reading.{Gives, Placed, distinct, fault_of, faults_of, group_below, grouped, groups_of, placed, placed_entry, read_lines_of, unless_faulty}
+use Rattle.keyfile.specs.Steps.{State, Took, after_entry, after_line}
+use Rattle.updater_text.specs.declared.stops.Lack.{Lack}
+use Rattle.updater_text.specs.declared.stops.Lack.TheVariants as lack
+use Rattle.keyfile.specs.declared.fault.KeyFault.{KeyFault}
+use Rattle.keyfile.specs.declared.fault.KeyFault.TheVariants as fault
 
--- what is left to read makes of the groups so far, the lines so far being so many
-abbrev pub after : List Group → ℕ → List Line → Result (List Group) KeyFault
-after groups count [] = Ok groups
-after groups count (line ∷ more) = elim (with_line groups line) [ None ↦ Err (fault.BadLine (count + 1)) | Some new ↦ after new (count + 1) more ]
+-- the place of a group among all
+abbrev pub place_in : List Placed → Option Text → Option ℕ
+place_in all group = option_map (λ n. position_or_len (bytes_eq n) (distinct (map (λ p. p.0) all))) group
 
--- a line that says nothing
-first_entries-nothing : (done : List Line) → first_entries (done ++ nothing ∷ []) ≡ first_entries done
-first_entries-nothing [] = refl
-first_entries-nothing (nothing ∷ more) = first_entries-nothing more
-first_entries-nothing (heading name ∷ more) = refl
-first_entries-nothing (entry key value ∷ more) = ap (λ (t : List Entry). (key, value) ∷ t) (first_entries-nothing more)
-first_entries-nothing (bad ∷ more) = first_entries-nothing more
+-- the groups, and the place of the last one opened
+abbrev pub state : List Placed → Option Text → State
+state all group = (grouped all, place_in all group)
 
-groups_of-nothing : (done : List Line) → groups_of (done ++ nothing ∷ []) ≡ groups_of done
-groups_of-nothing [] = refl
-groups_of-nothing (nothing ∷ more) = groups_of-nothing more
-groups_of-nothing (heading name ∷ more) = ap (λ (t : List Entry). (name, t) ∷ groups_of (more ++ nothing ∷ [])) (first_entries-nothing more) ∙ ap (λ (t : List Group). (name, first_entries more) ∷ t) (groups_of-nothing more)
-groups_of-nothing (entry key value ∷ more) = groups_of-nothing more
-groups_of-nothing (bad ∷ more) = groups_of-nothing more
+-- a fault, or else the state
+abbrev pub judged : Option KeyFault → State → Result State KeyFault
+judged None new = Ok new
+judged (Some refusal) new = Err refusal
 
--- a heading
-first_entries-heading : (done : List Line) (n : Text) → first_entries (done ++ heading n ∷ []) ≡ first_entries done
-first_entries-heading [] n = refl
-first_entries-heading (nothing ∷ more) n = first_entries-heading more n
-first_entries-heading (heading name ∷ more) n = refl
-first_entries-heading (entry key value ∷ more) n = ap (λ (t : List Entry). (key, value) ∷ t) (first_entries-heading more n)
-first_entries-heading (bad ∷ more) n = first_entries-heading more n
+-- one line more, of a state that lines made
+step_entry : (all : List Placed) (n key : Text) (number : ℕ) → is_in (map (λ p. p.0) all) n ≡ true → (value : Option Text)
+    → after_entry (grouped all) (position_or_len (bytes_eq n) (distinct (map (λ p. p.0) all))) number key value
+    ≡ judged (if is_some value then None else Some (fault.BadEscape number)) (state (all ++ (n, Some (key, unwrap_or value [])) ∷ []) (Some n))
+step_entry all n key number there None = refl
+step_entry all n key number there (Some value) =
+    ap (λ (gs : List Group). Ok (gs, Some (position_or_len (bytes_eq n) (distinct (map (λ p. p.0) all))))) (sym (grouped-entry all n key value there))
+    ∙ ap (λ (i : ℕ). Ok (grouped (all ++ (n, Some (key, value)) ∷ []), Some i)) (sym (position-placed all n (Some (key, value))))
 
-groups_of-heading : (done : List Line) (n : Text) → groups_of (done ++ heading n ∷ []) ≡ groups_of done ++ (n, []) ∷ []
-groups_of-heading [] n = refl
-groups_of-heading (nothing ∷ more) n = groups_of-heading more n
-groups_of-heading (heading name ∷ more) n = ap (λ (t : List Entry). (name, t) ∷ groups_of (more ++ heading n ∷ [])) (first_entries-heading more n) ∙ ap (λ (t : List Group). (name, first_entries more) ∷ t) (groups_of-heading more n)
-groups_of-heading (entry key value ∷ more) n = groups_of-heading more n
-groups_of-heading (bad ∷ more) n = groups_of-heading more n
+step : (all : List Placed) (group : Option Text) (number : ℕ) (line : Line) → ((n : Text) → group ≡ Some n → is_in (map (λ p. p.0) all) n ≡ true)
+    → after_line (grouped all) (place_in all group) number line ≡ judged (fault_of group number line) (state (all ++ placed group (line ∷ [])) (group_below group (line ∷ [])))
+step all group number nothing there = ap (λ (a : List Placed). Ok (state a group)) (sym (append-nil all))
+step all group number (heading n) there =
+    ap (λ (gs : List Group). Ok (gs, Some (place_of (grouped all) n))) (sym (grouped-heading all n))
+    ∙ ap (λ (i : ℕ). Ok (grouped (all ++ (n, None) ∷ []), Some i)) (place_of-grouped all n ∙ sym (position-placed all n None))
+step all None number (entry key value) there = refl
+step all (Some n) number (entry key value) there = step_entry all n key number (there n refl) (unescaped value)
+step all group number bad there = refl
 
--- an entry below no heading
-first_entries-entry : (done : List Line) (k v : Text) → groups_of done ≡ [] → first_entries (done ++ entry k v ∷ []) ≡ first_entries done ++ (k, v) ∷ []
-first_entries-entry [] k v none = refl
-first_entries-entry (nothing ∷ more) k v none = first_entries-entry more k v none
-first_entries-entry (heading name ∷ more) k v none = cc
-first_entries-entry (entry key value ∷ more) k v none = ap (λ (t : List Entry). (key, value) ∷ t) (first_entries-entry more k v none)
-first_entries-entry (bad ∷ more) k v none = first_entries-entry more k v none
+-- lines and one more
+group_below-more : (above : Option Text) (done : List Line) (line : Line) → group_below above (done ++ line ∷ []) ≡ group_below (group_below above done) (line ∷ [])
+group_below-more above [] line = refl
+group_below-more above (nothing ∷ more) line = group_below-more above more line
+group_below-more above (heading name ∷ more) line = group_below-more (Some name) more line
+group_below-more above (entry key value ∷ more) line = group_below-more above more line
+group_below-more above (bad ∷ more) line = group_below-more above more line
 
-groups_of-entry_none : (done : List Line) (k v : Text) → groups_of done ≡ [] → groups_of (done ++ entry k v ∷ []) ≡ []
-groups_of-entry_none [] k v none = refl
-groups_of-entry_none (nothing ∷ more) k v none = groups_of-entry_none more k v none
-groups_of-entry_none (heading name ∷ more) k v none = cc
-groups_of-entry_none (entry key value ∷ more) k v none = groups_of-entry_none more k v none
-groups_of-entry_none (bad ∷ more) k v none = groups_of-entry_none more k v none
+placed-more : (above : Option Text) (done : List Line) (line : Line) → placed above (done ++ line ∷ []) ≡ placed above done ++ placed (group_below above done) (line ∷ [])
+placed-more above [] line = refl
+placed-more above (nothing ∷ more) line = placed-more above more line
+placed-more above (heading name ∷ more) line = ap (λ (t : List Placed). (name, None) ∷ t) (placed-more (Some name) more line)
+placed-more above (entry key value ∷ more) line =
+    ap (λ (t : List Placed). placed_entry above key value ++ t) (placed-more above more line)
+    ∙ sym (append_assoc (placed_entry above key value) (placed above more) (placed (group_below above more) (line ∷ [])))
+placed-more above (bad ∷ more) line = placed-more above more line
 
--- and below one
-first_entries-kept : (done : List Line) (k v : Text) (g : Group) (gs : List Group) → groups_of done ≡ g ∷ gs → first_entries (done ++ entry k v ∷ []) ≡ first_entries done
-first_entries-kept [] k v g gs some = cc
-first_entries-kept (nothing ∷ more) k v g gs some = first_entries-kept more k v g gs some
-first_entries-kept (heading name ∷ more) k v g gs some = refl
-first_entries-kept (entry key value ∷ more) k v g gs some = ap (λ (t : List Entry). (key, value) ∷ t) (first_entries-kept more k v g gs some)
-first_entries-kept (bad ∷ more) k v g gs some = first_entries-kept more k v g gs some
-
-groups_of-entry : (done : List Line) (k v : Text) (new : List Group) → with_entry (groups_of done) k v ≡ Some new → groups_of (done ++ entry k v ∷ []) ≡ new
-groups_of-entry [] k v new is = cc
-groups_of-entry (nothing ∷ more) k v new is = groups_of-entry more k v new is
-groups_of-entry (heading name ∷ more) k v new is = by (λ rest o. groups_of-entry more k v rest o) (groups_of more) refl is
+-- the group that a line stands in was opened
+is_in-append : (xs ys : List Text) (x : Text) → is_in ys x ≡ true → is_in (xs ++ ys) x ≡ true
+is_in-append [] ys x h = h
+is_in-append (y ∷ more) ys x h = go (is_in-append more ys x h) (bytes_eq x y)
   where
-    alone : (b : Bool) → (if b then None else Some ((name, first_entries more ++ (k, v) ∷ []) ∷ [])) ≡ Some new → (name, first_entries more ++ (k, v) ∷ []) ∷ [] ≡ new
-    alone true h = cc
-    alone false h = cc
+    go : is_in (more ++ ys) x ≡ true → (b : Bool) → (b || is_in (more ++ ys) x) ≡ true
+    go deep true = refl
+    go deep false = deep
 
-    below : ((rest : List Group) → with_entry (groups_of more) k v ≡ Some rest → groups_of (more ++ entry k v ∷ []) ≡ rest) → (g : Group) (gs : List Group) → groups_of more ≡ g ∷ gs → (o : Option (List Group)) → with_entry (g ∷ gs) k v ≡ o → option_map (λ (groups : List Group). (name, first_entries more) ∷ groups) o ≡ Some new → (name, first_entries (more ++ entry k v ∷ [])) ∷ groups_of (more ++ entry k v ∷ []) ≡ new
-    below deep g gs some None o h = cc
-    below deep g gs some (Some rest) o h =
-        let tail : groups_of (more ++ entry k v ∷ []) ≡ rest = deep rest (ap (λ (t : List Group). with_entry t k v) some ∙ o) in
-        let head = first_entries-kept more k v g gs some in
-        ap (λ (t : List Entry). (name, t) ∷ groups_of (more ++ entry k v ∷ [])) head ∙ (ap (λ (t : List Group). (name, first_entries more) ∷ t) tail ∙ cc)
-
-    by : ((rest : List Group) → with_entry (groups_of more) k v ≡ Some rest → groups_of (more ++ entry k v ∷ []) ≡ rest) → (gs : List Group) → groups_of more ≡ gs → with_entry ((name, first_entries more) ∷ gs) k v ≡ Some new → (name, first_entries (more ++ entry k v ∷ [])) ∷ groups_of (more ++ entry k v ∷ []) ≡ new
-    by deep [] none h =
-        let head = first_entries-entry more k v none in
-        let tail = groups_of-entry_none more k v none in
-        ap (λ (t : List Entry). (name, t) ∷ groups_of (more ++ entry k v ∷ [])) head ∙ (ap (λ (t : List Group). (name, first_entries more ++ (k, v) ∷ []) ∷ t) tail ∙ alone (has_key (first_entries more) k) h)
-    by deep (g ∷ gs) some h = below deep g gs some (with_entry (g ∷ gs) k v) refl h
-groups_of-entry (entry key value ∷ more) k v new is = groups_of-entry more k v new is
-groups_of-entry (bad ∷ more) k v new is = groups_of-entry more k v new is
-
--- the groups with a line more are those of the lines with it
-groups_of-with_line : (done : List Line) (line : Line) (new : List Group) → with_line (groups_of done) line ≡ Some new → groups_of (done ++ line ∷ []) ≡ new
-groups_of-with_line done nothing new is = let e = groups_of-nothing done in cc
-groups_of-with_line done (heading name) new is = by (has_group (groups_of done) name) is
+group_below-there : (above : Option Text) (done : List Line) (n : Text) → group_below above done ≡ Some n → (above ≡ Some n) ⊎ (is_in (map (λ p. p.0) (placed above done)) n ≡ true)
+group_below-there above [] n h = inl h
+group_below-there above (nothing ∷ more) n h = group_below-there above more n h
+group_below-there above (heading name ∷ more) n h =
+    elim (group_below-there (Some name) more n h) [
+      | inl same ↦ inr (ap (λ (b : Bool). b || is_in (map (λ p. p.0) (placed (Some name) more)) n) (equal_text n name (some_is name n same)))
+      | inr there ↦ inr (is_in-append (name ∷ []) (map (λ p. p.0) (placed (Some name) more)) n there)
+    ]
   where
-    by : (b : Bool) → (if b then None else Some (groups_of done ++ (name, []) ∷ [])) ≡ Some new → groups_of (done ++ heading name ∷ []) ≡ new
-    by true h = cc
-    by false h = let e = groups_of-heading done name in cc
-groups_of-with_line done (entry key value) new is = groups_of-entry done key value new is
-groups_of-with_line done bad new is = cc
+    some_is : (a b : Text) → ◌≡◌ {A = Option Text} (Some a) (Some b) → b ≡ a
+    some_is a b e = cc
+group_below-there above (entry key value ∷ more) n h =
+    elim (group_below-there above more n h) [
+      | inl same ↦ inl same
+      | inr there ↦ inr (ap (λ (t : List Text). is_in t n) (map-append (λ (p : Placed). p.0) (placed_entry above key value) (placed above more))
+          ∙ is_in-append (map (λ p. p.0) (placed_entry above key value)) (map (λ p. p.0) (placed above more)) n there)
+    ]
+group_below-there above (bad ∷ more) n h = group_below-there above more n h
+
+none_is_none : (n : Text) → ◌≡◌ {A = Option Text} None (Some n) → ⊥
+none_is_none n e = cc
+
+opened_there : (done : List Line) (n : Text) → group_below None done ≡ Some n → is_in (map (λ p. p.0) (placed None done)) n ≡ true
+opened_there done n h = elim (group_below-there None done n h) [ inl same ↦ absurd (none_is_none n same) | inr there ↦ there ]
+
+-- the state that lines make
+abbrev pub state_of : List Line → State
+state_of done = state (placed None done) (group_below None done)
+
+state_of-more : (done : List Line) (line : Line) → state_of (done ++ line ∷ []) ≡ state (placed None done ++ placed (group_below None done) (line ∷ [])) (group_below (group_below None done) (line ∷ []))
+state_of-more done line =
+    ap (λ (a : List Placed). state a (group_below None (done ++ line ∷ []))) (placed-more None done line)
+    ∙ ap (state (placed None done ++ placed (group_below None done) (line ∷ []))) (group_below-more None done line)
+
+step_of : (done : List Line) (number : ℕ) (line : Line) → after_line (groups_of done) (state_of done).1 number line ≡ judged (fault_of (group_below None done) number line) (state_of (done ++ line ∷ []))
+step_of done number line =
+    step (placed None done) (group_below None done) number line (opened_there done)
+    ∙ ap (judged (fault_of (group_below None done) number line)) (sym (state_of-more done line))
+
+-- what is left to read makes of the state so far, the lines so far being so many
+abbrev pub after : List Group → Option ℕ → ℕ → List Line → Result (List Group) KeyFault
+after groups at count [] = Ok groups
+after groups at count (line ∷ more) = elim (after_line groups at (count + 1) line) [ Ok new ↦ after new.0 new.1 (count + 1) more | Err refusal ↦ Err refusal ]
 
 -- one line more
-after-step : (count : ℕ) (line : Line) (more : List Line) (rest : Option (ℕ × Line)) (all : List Group) (o : Option (List Group))
-    → ((next : List Group) → o ≡ Some next → after next (count + 1) more ≡ unless_bad rest all)
-    → let read : Result (List Group) KeyFault = elim o [ None ↦ Err (fault.BadLine (count + 1)) | Some new ↦ after new (count + 1) more ] in read ≡ unless_bad (cond (not (is_some o)) (Some (count, line)) rest) all
-after-step count line more rest all None deep = refl
-after-step count line more rest all (Some next) deep = deep next refl
+after-step : (count : ℕ) (more : List Line) (rest : List KeyFault) (all : List Group) (o : Option KeyFault) (new : State) (r : Result State KeyFault) → r ≡ judged o new
+    → after new.0 new.1 (count + 1) more ≡ unless_faulty rest all
+    → let read : Result (List Group) KeyFault = elim r [ Ok next ↦ after next.0 next.1 (count + 1) more | Err refusal ↦ Err refusal ] in read ≡ unless_faulty (cons_option o rest) all
+after-step count more rest all None new r is deep =
+    ap (λ (x : Result State KeyFault). let read : Result (List Group) KeyFault = elim x [ Ok next ↦ after next.0 next.1 (count + 1) more | Err refusal ↦ Err refusal ] in read) is ∙ deep
+after-step count more rest all (Some refusal) new r is deep =
+    ap (λ (x : Result State KeyFault). let read : Result (List Group) KeyFault = elim x [ Ok next ↦ after next.0 next.1 (count + 1) more | Err refusal ↦ Err refusal ] in read) is
 
 -- what is left to read makes of the lines so far what all lines are
-after-all : (lines done more : List Line) → lines ≡ done ++ more
-    → after (groups_of done) (length done) more ≡ unless_bad (find (λ numbered. not (is_in_order lines numbered)) (enumerate_from (length done) more)) (groups_of lines)
-after-all lines done [] whole = ap (λ (t : List Line). Ok (groups_of t)) (sym (whole ∙ append-nil done))
-after-all lines done (line ∷ more) whole =
-    let above : take (length done) lines ≡ done = ap (λ (t : List Line). take (length done) t) whole ∙ take-append_seam done (line ∷ more) in
-    let deep = after-all lines (done ++ line ∷ []) more (whole ∙ sym (append_assoc done (line ∷ []) more)) in
+after-all : (said done more : List Line) → said ≡ done ++ more
+    → after (groups_of done) (state_of done).1 (length done) more ≡ unless_faulty (filter_map (λ numbered. fault_of (group_below None (take numbered.0 said)) (numbered.0 + 1) numbered.1) (enumerate_from (length done) more)) (groups_of said)
+after-all said done [] whole = ap (λ (t : List Line). Ok (groups_of t)) (sym (whole ∙ append-nil done))
+after-all said done (line ∷ more) whole =
+    let above : take (length done) said ≡ done = ap (λ (t : List Line). take (length done) t) whole ∙ take-append_seam done (line ∷ more) in
+    let deep = after-all said (done ++ line ∷ []) more (whole ∙ sym (append_assoc done (line ∷ []) more)) in
     let longer : length (done ++ line ∷ []) ≡ length done + 1 = omega (arith, length-append done (line ∷ [])) in
-    subst (λ (front : List Line). after (groups_of done) (length done) (line ∷ more) ≡ unless_bad (cond (not (is_some (with_line (groups_of front) line))) (Some (length done, line)) (find (λ numbered. not (is_in_order lines numbered)) (enumerate_from (length done + 1) more))) (groups_of lines)) (sym above)
-    (after-step (length done) line more _ (groups_of lines) (with_line (groups_of done) line)
-    (λ next there. subst (λ (n : ℕ). after next n more ≡ unless_bad (find (λ numbered. not (is_in_order lines numbered)) (enumerate_from n more)) (groups_of lines)) longer
-    (subst (λ (gs : List Group). after gs (length (done ++ line ∷ [])) more ≡ unless_bad (find (λ numbered. not (is_in_order lines numbered)) (enumerate_from (length (done ++ line ∷ [])) more)) (groups_of lines)) (groups_of-with_line done line next there) deep)))
+    subst (λ (front : List Line). after (groups_of done) (state_of done).1 (length done) (line ∷ more) ≡ unless_faulty (cons_option (fault_of (group_below None front) (length done + 1) line) (filter_map (λ numbered. fault_of (group_below None (take numbered.0 said)) (numbered.0 + 1) numbered.1) (enumerate_from (length done + 1) more))) (groups_of said)) (sym above)
+    (after-step (length done) more _ (groups_of said) (fault_of (group_below None done) (length done + 1) line) (state_of (done ++ line ∷ [])) (after_line (groups_of done) (state_of done).1 (length done + 1) line) (step_of done (length done + 1) line)
+    (subst (λ (n : ℕ). after (groups_of (done ++ line ∷ [])) (state_of (done ++ line ∷ [])).1 n more ≡ unless_faulty (filter_map (λ numbered. fault_of (group_below None (take numbered.0 said)) (numbered.0 + 1) numbered.1) (enumerate_from n more)) (groups_of said)) longer deep))
 
-pub after-read_lines_of : (lines : List Line) → after [] 0 lines ≡ read_lines_of lines
-after-read_lines_of lines = after-all lines [] lines refl
+pub after-read_lines_of : (said : List Line) → after [] None 0 said ≡ read_lines_of said
+after-read_lines_of said = after-all said [] said refl
 
 -- the next line, where it may stand there
-pub after-good : (groups : List Group) (count : ℕ) (line : Line) (more : List Line) (new : List Group) → with_line groups line ≡ Some new → after groups count (line ∷ more) ≡ after new (count + 1) more
-after-good groups count line more new ok =
-    ap (λ (o : Option (List Group)). let read : Result (List Group) KeyFault = elim o [ None ↦ Err (fault.BadLine (count + 1)) | Some next ↦ after next (count + 1) more ] in read) ok
+pub after-good : (groups : List Group) (at : Option ℕ) (count : ℕ) (line : Line) (more : List Line) (new : List Group) (next : Option ℕ) → after_line groups at (count + 1) line ≡ Ok (new, next) → after groups at count (line ∷ more) ≡ after new next (count + 1) more
+after-good groups at count line more new next ok =
+    ap (λ (x : Result State KeyFault). let read : Result (List Group) KeyFault = elim x [ Ok s ↦ after s.0 s.1 (count + 1) more | Err refusal ↦ Err refusal ] in read) ok
 
 -- and where it may not
-pub after-bad : (groups : List Group) (count : ℕ) (line : Line) (more : List Line) → with_line groups line ≡ None → after groups count (line ∷ more) ≡ Err (fault.BadLine (count + 1))
-after-bad groups count line more not_there =
-    ap (λ (o : Option (List Group)). let read : Result (List Group) KeyFault = elim o [ None ↦ Err (fault.BadLine (count + 1)) | Some next ↦ after next (count + 1) more ] in read) not_there
+pub after-bad : (groups : List Group) (at : Option ℕ) (count : ℕ) (line : Line) (more : List Line) (why : KeyFault) → after_line groups at (count + 1) line ≡ Err why → after groups at count (line ∷ more) ≡ Err why
+after-bad groups at count line more why refused =
+    ap (λ (x : Result State KeyFault). let read : Result (List Group) KeyFault = elim x [ Ok s ↦ after s.0 s.1 (count + 1) more | Err refusal ↦ Err refusal ] in read) refused
 
 -- the line at a place, and those after it
 pub drop_line : (all : List Text) (count : ℕ) (line : Text) → count < length all → line ≡ get_or all count line → drop count (map line_of all) ≡ line_of line ∷ drop (count + 1) (map line_of all)
@@ -153,3 +171,8 @@ drop_line all count line within is =
 -- no line is left
 pub drop_lines : (all : List Text) (count : ℕ) → count ≡ length all → drop count (map line_of all) ≡ []
 drop_lines all count whole = drop-map line_of count all ∙ ap (map line_of) (drop_all count all (omega arith))
+
+-- a fault of a line is the answer of the whole
+pub gives_fault : (answer : Lack KeyFault) (new : List Group) (taken : Result State KeyFault) (wanted : Result (List Group) KeyFault) → Took (Err answer) new taken → ((why : KeyFault) → taken ≡ Err why → wanted ≡ Err why) → Gives (Err answer) wanted
+gives_fault (lack.Refused why) new taken wanted took faulty = faulty why took
+gives_fault lack.NoMemory new taken wanted took faulty = tt

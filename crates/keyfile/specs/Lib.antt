@@ -1,3 +1,7 @@
+pub mod Canonical
+pub mod Escapes
 pub mod Groups
+pub mod Items
 pub mod Lines
 pub mod Reading
+pub mod Steps

@@ -1,64 +1,94 @@
 -- What a whole text says as a key file.
-use Rattle.std.specs.Prelude.{◌≡◌, ℕ, ◌+◌, Bool, not, ◌==◌, nat_lt, List, [], ◌∷◌, length, take, map, find, Option, Some, None, is_some, Result, Ok, Err, if◌then◌else◌}
-use Rattle.std.specs.List.{enumerate_from, list_all, slice_split}
+use Rattle.std.specs.Prelude.{◌≡◌, ℕ, ◌+◌, Bool, true, false, not, nat_lt, List, [], ◌∷◌, ◌++◌, length, take, map, filter, filter_map, fold, Option, Some, None, is_some, unwrap_or, Result, Ok, Err, if◌then◌else◌}
+use Rattle.std.specs.List.{enumerate_from}
+use Rattle.std.specs.Str.{bytes_eq, is_utf8}
+use Rattle.std.specs.Str.Lines.{lines}
+use Rattle.std.specs.Str.Lossy.{utf8_valid_len}
 use Rattle.updater_text.specs.declared.stops.Lack.{Lack}
 use Rattle.updater_text.specs.declared.stops.Lack.TheVariants as lack
-use Rattle.keyfile.specs.Groups.{Text, Entry, Group, with_group, with_entry}
+use Rattle.keyfile.specs.Escapes.{unescaped}
+use Rattle.keyfile.specs.Groups.{Text, Entry, Group}
 use Rattle.keyfile.specs.Lines.{Line, nothing, heading, entry, bad, line_of}
-use Rattle.keyfile.specs.declared.reading.KeyFault.{KeyFault}
-use Rattle.keyfile.specs.declared.reading.KeyFault.TheVariants as fault
+use Rattle.keyfile.specs.declared.fault.KeyFault.{KeyFault}
+use Rattle.keyfile.specs.declared.fault.KeyFault.TheVariants as fault
 
--- the lines of a text, cut at each line feed
-abbrev pub lines_of : Text → List Line
-lines_of text = map line_of (slice_split (λ b. b == 10) text)
+-- the group that a line stands in below these lines, where the one in `above` holds at their start: the last heading's
+abbrev pub group_below : Option Text → List Line → Option Text
+group_below above [] = above
+group_below above (nothing ∷ more) = group_below above more
+group_below above (heading name ∷ more) = group_below (Some name) more
+group_below above (entry key value ∷ more) = group_below above more
+group_below above (bad ∷ more) = group_below above more
 
--- the entries before the next heading
-abbrev pub first_entries : List Line → List Entry
-first_entries [] = []
-first_entries (nothing ∷ more) = first_entries more
-first_entries (heading name ∷ more) = []
-first_entries (entry key value ∷ more) = (key, value) ∷ first_entries more
-first_entries (bad ∷ more) = first_entries more
+-- a heading or an entry, with the name of the group that it stands in
+abbrev pub Placed : Type 0
+Placed = Text × Option Entry
 
--- each heading, with the entries before the next one
+-- the entry of these lines, where it stands in a group
+abbrev pub placed_entry : Option Text → Text → Text → List Placed
+placed_entry None key value = []
+placed_entry (Some name) key value = (name, Some (key, unwrap_or (unescaped value) [])) ∷ []
+
+-- each heading and each entry with its group
+abbrev pub placed : Option Text → List Line → List Placed
+placed above [] = []
+placed above (nothing ∷ more) = placed above more
+placed above (heading name ∷ more) = (name, None) ∷ placed (Some name) more
+placed above (entry key value ∷ more) = placed_entry above key value ++ placed above more
+placed above (bad ∷ more) = placed above more
+
+-- the texts, each at its first place alone
+abbrev pub distinct : List Text → List Text
+distinct [] = []
+distinct (x ∷ more) = x ∷ filter (λ y. not (bytes_eq x y)) (distinct more)
+
+-- the last value of a key
+abbrev pub last_value : List Entry → Text → Text
+last_value entries key = fold (λ value e. if bytes_eq key e.0 then e.1 else value) [] entries
+
+-- each key at its first place, with its last value
+abbrev pub merged : List Entry → List Entry
+merged entries = map (λ key. (key, last_value entries key)) (distinct (map (λ e. e.0) entries))
+
+-- the entries of a group, under whichever of its headings
+abbrev pub entries_under : List Placed → Text → List Entry
+entries_under all name = filter_map (λ p. if bytes_eq name p.0 then p.1 else None) all
+
+-- each group at its first place, with its keys and values
+abbrev pub grouped : List Placed → List Group
+grouped all = map (λ name. (name, merged (entries_under all name))) (distinct (map (λ p. p.0) all))
+
+-- the groups of these lines
 abbrev pub groups_of : List Line → List Group
-groups_of [] = []
-groups_of (nothing ∷ more) = groups_of more
-groups_of (heading name ∷ more) = (name, first_entries more) ∷ groups_of more
-groups_of (entry key value ∷ more) = groups_of more
-groups_of (bad ∷ more) = groups_of more
+groups_of said = grouped (placed None said)
 
--- these groups with a line more, where it may stand below them: a heading whose name is new, or an entry whose key is new in the last group
-abbrev pub with_line : List Group → Line → Option (List Group)
-with_line groups nothing = Some groups
-with_line groups (heading name) = with_group groups name
-with_line groups (entry key value) = with_entry groups key value
-with_line groups bad = None
+-- why a line of this number is refused in this group
+abbrev pub fault_of : Option Text → ℕ → Line → Option KeyFault
+fault_of group number nothing = None
+fault_of group number (heading name) = None
+fault_of None number (entry key value) = Some (fault.KeyBeforeGroup number)
+fault_of (Some name) number (entry key value) = if is_some (unescaped value) then None else Some (fault.BadEscape number)
+fault_of group number bad = Some (fault.BadLine number)
 
--- the line at a place may stand below the groups of all lines above it
-abbrev pub is_in_order : List Line → ℕ × Line → Bool
-is_in_order lines numbered = is_some (with_line (groups_of (take numbered.0 lines)) numbered.1)
+-- the faults of all lines, which are counted from 1
+abbrev pub faults_of : List Line → List KeyFault
+faults_of said = filter_map (λ numbered. fault_of (group_below None (take numbered.0 said)) (numbered.0 + 1) numbered.1) (enumerate_from 0 said)
 
--- each line may stand where it is
-abbrev pub is_well : List Line → Bool
-is_well lines = list_all (is_in_order lines) (enumerate_from 0 lines)
-
--- the place of the first line that may not
-abbrev pub first_bad : List Line → Option (ℕ × Line)
-first_bad lines = find (λ numbered. not (is_in_order lines numbered)) (enumerate_from 0 lines)
-
--- the groups where no line is bad, or else the number of the first bad one
-abbrev pub unless_bad : Option (ℕ × Line) → List Group → Result (List Group) KeyFault
-unless_bad None groups = Ok groups
-unless_bad (Some numbered) groups = Err (fault.BadLine (numbered.0 + 1))
+-- the first fault, or else the groups
+abbrev pub unless_faulty : List KeyFault → List Group → Result (List Group) KeyFault
+unless_faulty [] groups = Ok groups
+unless_faulty (first ∷ more) groups = Err first
 
 -- what these lines spell
 abbrev pub read_lines_of : List Line → Result (List Group) KeyFault
-read_lines_of lines = unless_bad (first_bad lines) (groups_of lines)
+read_lines_of said = unless_faulty (faults_of said) (groups_of said)
 
 -- the key file that a text spells, or why it spells none
 abbrev pub read_of : Text → Result (List Group) KeyFault
-read_of text = if nat_lt 1048576 (length text) then Err (fault.TooLong (length text)) else read_lines_of (lines_of text)
+read_of text =
+    if nat_lt 1048576 (length text) then Err (fault.TooLong (length text))
+    else if is_utf8 text then read_lines_of (map line_of (lines text))
+    else Err (fault.NotUtf8 (utf8_valid_len text))
 
 -- a call gave this; or memory was wanting
 abbrev pub Gives : Result (List Group) (Lack KeyFault) → Result (List Group) KeyFault → Type 0

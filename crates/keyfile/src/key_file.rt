@@ -1,7 +1,9 @@
-ghost use Rattle.std.specs.Prelude.{◌≡◌, [], IfOk, OnErr, length, option_copied, option_map, slice_get};
+ghost use Rattle.std.specs.Prelude.{◌≡◌, [], IfOk, IsTrue, OnErr, OnOk, length, option_copied, option_map, slice_get, string_bytes};
 ghost use Rattle.std.specs.Option.{option_map_or};
-ghost use Rattle.keyfile.specs.Groups.{Became, entry_at, get_in, with_entry, with_group};
+ghost use Rattle.keyfile.specs.Canonical.{canonical};
+ghost use Rattle.keyfile.specs.Groups.{entry_at, get_in, is_key, is_name, is_value, may_be_put, opened, place_of, put_at, put_in};
 
+use crate::writing::write_groups;
 use indexmap::IndexMap;
 use std::alloc::Global;
 use std::marker::Model;
@@ -18,12 +20,14 @@ pub struct KeyFile {
 }
 
 impl Model for KeyFile {
-    ghost use Rattle.std.specs.Prelude.{ℕ, List};
-    ghost use Rattle.keyfile.specs.Groups.{groups_in};
+    ghost use Rattle.std.specs.Prelude.{◌≡◌, ℕ, List, true};
+    ghost use Rattle.keyfile.specs.Groups.{groups_in, is_key_file};
 
     ghost Value = { List (List ℕ × List (List ℕ × List ℕ)) };
 
     ghost view = { λ f. groups_in f.groups.entries };
+
+    ghost invariant = { λ f. is_key_file (groups_in f.groups.entries) ≡ true };
 }
 
 impl KeyFile {
@@ -88,34 +92,69 @@ impl KeyFile {
         Some(value.as_str())
     }
 
-    // Opens a group after all others; false where one has this name.
-    pub(crate) fn open(&mut self, name: &str) -> Result<bool, NoMemory>
-        ensures opened { IfOk result (λ new. Became new self.old self.new (with_group self.old name.now)) }
+    /// Gives a key of a group a value. A new group or key goes last, and a present key keeps its place.
+    /// Where memory is wanting, the file stays as it is.
+    pub fn put(&mut self, group: &str, key: &str, value: &str) -> Result<(), NoMemory>
+        requires { IsTrue (may_be_put group.now key.now value.now) }
+        ensures ok { OnOk result (self.new ≡ put_in self.old group.now key.now value.now) }
         ensures err { OnErr result (self.new ≡ self.old) }
     {
-        if self.groups.contains_key(name) {
-            return Ok(false);
+        let key = String::from_str(self.alloc, key)?;
+        let value = String::from_str(self.alloc, value)?;
+        match self.groups.get_mut(group) {
+            Some(entries) => {
+                entries.insert(key, value)?;
+                Ok(())
+            }
+            None => {
+                let name = String::from_str(self.alloc, group)?;
+                let mut entries = IndexMap::new(self.alloc);
+                entries.insert(key, value)?;
+                self.groups.insert(name, entries)?;
+                Ok(())
+            }
         }
-        let name = String::from_str(self.alloc, name)?;
-        self.groups.insert(name, IndexMap::new(self.alloc))?;
-        Ok(true)
     }
 
-    // Puts an entry at the end of the last group; false where there is no group, or where the key is
-    // in it.
-    pub(crate) fn add(&mut self, key: &str, value: &str) -> Result<bool, NoMemory>
-        ensures added { IfOk result (λ new. Became new self.old self.new (with_entry self.old key.now value.now)) }
+    /// The text of the key file: for each group `[name]` and for each of its keys `key=value`, with an
+    /// empty line between each two groups. In a value each space of the leading run is written `\\s`,
+    /// and each line feed, tab, carriage return and backslash `\\n`, `\\t`, `\\r` and `\\\\`.
+    pub fn write(&self) -> Result<Vec<u8>, NoMemory>
+        ensures { IfOk result (λ text. text.items ≡ canonical self.now) }
+    {
+        let mut text = Vec::new(self.alloc);
+        write_groups(&mut text, &self.groups)?;
+        Ok(text)
+    }
+
+    // The place of the group of this name, which goes last where it is new.
+    pub(crate) fn open(&mut self, name: &str) -> Result<usize, NoMemory>
+        requires { IsTrue (is_name name.now) }
+        ensures opened { OnOk result (self.new ≡ opened self.old name.now) }
+        ensures place { IfOk result (λ at. at ≡ place_of self.old name.now) }
+        ensures err { OnErr result (self.new ≡ self.old) }
+    {
+        if let Some(at) = self.groups.get_index_of(name) {
+            return Ok(at);
+        }
+        let name = String::from_str(self.alloc, name)?;
+        let at = self.groups.len();
+        self.groups.insert(name, IndexMap::new(self.alloc))?;
+        Ok(at)
+    }
+
+    // Gives a key of the group at a place a value, where a group is there.
+    pub(crate) fn put_at(&mut self, at: usize, key: &str, value: String) -> Result<(), NoMemory>
+        requires key { IsTrue (is_key key.now) }
+        requires value { IsTrue (is_value (string_bytes value)) }
+        ensures ok { OnOk result (self.new ≡ put_at self.old at key.now (string_bytes value)) }
         ensures err { OnErr result (self.new ≡ self.old) }
     {
         let name = String::from_str(self.alloc, key)?;
-        let value = String::from_str(self.alloc, value)?;
-        let Some(entries) = self.groups.last_mut() else {
-            return Ok(false);
+        let Some(entries) = self.groups.get_index_mut(at) else {
+            return Ok(());
         };
-        if entries.contains_key(key) {
-            return Ok(false);
-        }
         entries.insert(name, value)?;
-        Ok(true)
+        Ok(())
     }
 }

@@ -1,8 +1,9 @@
-ghost use Rattle.std.specs.Prelude.{◌≡◌, ◌==◌, option_copied, option_map, slice_index};
-ghost use Rattle.std.specs.List.{list_all};
-ghost use Rattle.keyfile.specs.Lines.{entry_of, heading_of, is_key, is_key_byte, is_name, is_name_byte, is_plain, is_silent, line_of, plain_line, shown};
+ghost use Rattle.std.specs.Prelude.{◌≡◌, ◌<◌, MatchOption, length, option_copied, option_map};
+ghost use Rattle.keyfile.specs.Lines.{after_blanks, before_blanks, bracketed, entry_of, heading_of, is_silent, line_of, said_by, shown};
 
-/// What a line says.
+use crate::forms::{has_line_bytes, is_key, is_name};
+
+/// What a line says: nothing, the name of a group, a key and its written value, or it is bad.
 #[derive(Clone, Copy)]
 pub enum Line<'a> {
     Nothing,
@@ -11,12 +12,52 @@ pub enum Line<'a> {
     Bad,
 }
 
-// Whether each byte is one that may stand in a line.
-fn is_plain(line: &[u8]) -> bool
-    ensures { result ≡ list_all is_plain line.now }
+// What follows a space or a tab.
+fn strip_blank(text: &str) -> Option<&str>
+    ensures { MatchOption result (after_blanks text.now ≡ text.now) (λ rest. (after_blanks text.now ≡ after_blanks rest.now) × (length rest.now < length text.now)) }
 {
-    line.iter()
-        .all(|byte| 32 <= *byte && *byte <= 126 && *byte != b'\\')
+    if let Some(rest) = text.strip_prefix(' ') {
+        return Some(rest);
+    }
+    if let Some(rest) = text.strip_prefix('\t') {
+        return Some(rest);
+    }
+    None
+}
+
+// A text without the blanks at its front.
+fn after_blanks(text: &str) -> &str
+    ensures { result.now ≡ after_blanks text.now }
+{
+    let mut left = text;
+    while let Some(rest) = strip_blank(left) {
+        left = rest;
+    }
+    left
+}
+
+// What stands before a space or a tab at the end.
+fn strip_last_blank(text: &str) -> Option<&str>
+    ensures { MatchOption result (before_blanks text.now ≡ text.now) (λ front. (before_blanks text.now ≡ before_blanks front.now) × (length front.now < length text.now)) }
+{
+    if let Some(front) = text.strip_suffix(' ') {
+        return Some(front);
+    }
+    if let Some(front) = text.strip_suffix('\t') {
+        return Some(front);
+    }
+    None
+}
+
+// A text without the blanks at its end.
+fn before_blanks(text: &str) -> &str
+    ensures { result.now ≡ before_blanks text.now }
+{
+    let mut left = text;
+    while let Some(front) = strip_last_blank(left) {
+        left = front;
+    }
+    left
 }
 
 // Whether a line is empty or a comment.
@@ -29,81 +70,36 @@ fn is_silent(text: &str) -> bool
     }
 }
 
-// Whether no bracket stands in a text.
-fn has_name_bytes(text: &str) -> bool
-    ensures { result ≡ list_all is_name_byte text.now }
-{
-    text.as_bytes()
-        .iter()
-        .all(|byte| *byte != b'[' && *byte != b']')
-}
-
-// Whether a text may be the name of a group.
-fn is_name(name: &str) -> bool
-    ensures { result ≡ is_name name.now }
-{
-    !name.is_empty() && has_name_bytes(name)
-}
-
-// Whether a byte may stand in a key.
-fn is_key_byte(byte: u8) -> bool
-    ensures { result ≡ is_key_byte byte }
-{
-    byte.is_ascii_alphanumeric() || byte == b'-' || byte == b'_' || byte == b'.'
-}
-
-// Whether only such bytes stand in a text.
-fn has_key_bytes(text: &str) -> bool
-    ensures { result ≡ list_all is_key_byte text.now }
-{
-    text.as_bytes().iter().all(|byte| is_key_byte(*byte))
-}
-
-// Whether a text may be a key.
-fn is_key(key: &str) -> bool
-    ensures { result ≡ is_key key.now }
-{
-    !key.is_empty() && has_key_bytes(key)
-}
-
-// The name in a line `[name]`.
-fn heading_of(text: &str) -> Option<&str>
-    ensures { option_copied result ≡ heading_of text.now }
+// The name in `[name]`.
+fn bracketed(text: &str) -> Option<&str>
+    ensures { option_copied result ≡ bracketed text.now }
 {
     let name = text.strip_prefix('[')?.strip_suffix(']')?;
     if is_name(name) { Some(name) } else { None }
 }
 
-// Whether a text begins with a space.
-fn starts_blank(text: &str) -> bool
-    ensures { result ≡ (slice_index text.now 0 == 32) }
-{
-    match text.as_bytes() {
-        [] => false,
-        [first, ..] => *first == b' ',
-    }
-}
-
-// The key and the value of a line `key=value`.
+// The key and the written value in `key=value`.
 fn entry_of(text: &str) -> Option<(&str, &str)>
     ensures { option_map (λ e. (e.0.now, e.1.now)) result ≡ entry_of text.now }
 {
-    let (key, value) = text.split_once('=')?;
-    if is_key(key) && !starts_blank(value) {
+    let (front, back) = text.split_once('=')?;
+    let key = before_blanks(front);
+    let value = after_blanks(back);
+    if is_key(key) && has_line_bytes(value) {
         Some((key, value))
     } else {
         None
     }
 }
 
-// What a text says as a line.
-fn plain_line(text: &str) -> Line<'_>
-    ensures { shown result ≡ plain_line text.now }
+// What a line says that begins with no blank.
+fn said_by(text: &str) -> Line<'_>
+    ensures { shown result ≡ said_by text.now }
 {
     if is_silent(text) {
         return Line::Nothing;
     }
-    if let Some(name) = heading_of(text) {
+    if let Some(name) = bracketed(before_blanks(text)) {
         return Line::Heading(name);
     }
     match entry_of(text) {
@@ -112,15 +108,9 @@ fn plain_line(text: &str) -> Line<'_>
     }
 }
 
-/// What the bytes of a line say.
-pub fn line_of(line: &[u8]) -> Line<'_>
-    ensures { shown result ≡ line_of line.now }
+/// What a line says.
+pub fn line_of(text: &str) -> Line<'_>
+    ensures { shown result ≡ line_of text.now }
 {
-    if !is_plain(line) {
-        return Line::Bad;
-    }
-    match str::from_utf8(line) {
-        Ok(text) => plain_line(text),
-        Err(_) => Line::Bad,
-    }
+    said_by(after_blanks(text))
 }

@@ -1,48 +1,182 @@
-use crate::{KeyFault, KeyFile, read};
+use crate::{KeyFault, KeyFile, fits, items, read};
 use std::test::Fail;
 use updater_text::Lack;
 
-// The number that a refused text is refused with, or 0 for another answer.
-fn bad_line(rt: &HostRuntime, text: &[u8]) -> u64 {
+// A configuration as a board has it.
+const SYSTEM: &[u8; 390] = b"[system]
+compatible=Acme Gateway
+bootloader=uboot
+data-directory=/data/rauc
+bundle-formats=-plain
+
+[handlers]
+post-install=/usr/lib/rauc/post
+
+[slot.rootfs.0]
+device=/dev/mmcblk0p2
+type=ext4
+bootname=A
+
+[slot.appfs.0]
+device=/dev/mmcblk0p4
+type=ext4
+parent=rootfs.0
+
+[slot.rootfs.1]
+device=/dev/mmcblk0p3
+type=ext4
+bootname=B
+
+[slot.appfs.1]
+device=/dev/mmcblk0p5
+type=ext4
+parent=rootfs.1
+";
+
+// A manifest as Debian's `rauc bundle` writes it: lists end in a semicolon, tabs are raw, and spaces
+// at the front of a value are escaped.
+const MANIFEST: &[u8; 225] = b"[update]
+compatible=Acme Gateway
+version=2024.05
+description=\\s\\stwo\tslots
+
+[bundle]
+format=verity
+
+[hooks]
+filename=hook
+
+[image.rootfs]
+size=3
+filename=rootfs.ext4
+hooks=pre-install;post-install;
+adaptive=block-hash-index;
+";
+
+// The worked example of the forms.
+const FORMS: &[u8; 41] = b" [a]\r\n x = 1\n[b]\nk=\\s\\\\ z\n# c\n[a]\nx=2\ny=\n";
+
+// The fault that a text is refused with.
+fn fault_of(rt: &HostRuntime, text: &[u8]) -> Option<KeyFault> {
     match read(rt.alloc(), text) {
-        Err(Lack::Refused(KeyFault::BadLine { number })) => number,
-        _ => 0,
+        Err(Lack::Refused(fault)) => Some(fault),
+        _ => None,
     }
 }
 
 #[test]
-fn reads_groups(rt: HostRuntime) -> Result<(), Fail> {
-    let text =
-        b"# slots\n\n[system]\ncompatible=Test\n\n[slot.rootfs.0]\ndevice=/dev/a\nbootname=A";
-    let file = read(rt.alloc(), text)?;
+fn reads_forms(rt: HostRuntime) -> Result<(), Fail> {
+    let file = read(rt.alloc(), FORMS)?;
     assert_eq!(rt; file.groups(), 2);
-    assert_eq!(rt; file.group(1), Some("slot.rootfs.0"));
+    assert_eq!(rt; file.group(0), Some("a"));
+    assert_eq!(rt; file.get("a", "x"), Some("2"));
+    assert_eq!(rt; file.key(0, 1), Some("y"));
+    assert_eq!(rt; file.value(0, 1), Some(""));
+    assert_eq!(rt; file.get("b", "k"), Some(" \\ z"));
+    assert_eq!(rt; file.key(1, 1), None);
     assert_eq!(rt; file.group(2), None);
-    assert_eq!(rt; file.key(1, 0), Some("device"));
-    assert_eq!(rt; file.value(1, 1), Some("A"));
-    assert_eq!(rt; file.key(0, 1), None);
-    assert_eq!(rt; file.get("system", "compatible"), Some("Test"));
-    assert_eq!(rt; file.get("system", "device"), None);
+    let text = file.write()?;
+    assert_eq!(rt;
+        text.as_slice(),
+        b"[a]\nx=2\ny=\n\n[b]\nk=\\s\\\\ z\n".as_slice()
+    );
     Ok(())
 }
 
 #[test]
-fn refuses_lines(rt: HostRuntime) -> Result<(), Fail> {
-    assert_eq!(rt; bad_line(&rt, b"x=1\n"), 1);
-    assert_eq!(rt; bad_line(&rt, b"[a]\n=5\n"), 2);
-    assert_eq!(rt; bad_line(&rt, b"[a]\nk= 5\n"), 2);
-    assert_eq!(rt; bad_line(&rt, b"[a]\n\nk=1\nk=2\n"), 4);
-    assert_eq!(rt; bad_line(&rt, b"[a]\n[b]\n[a]"), 3);
-    assert_eq!(rt; bad_line(&rt, b"[a]\r\n"), 1);
-    assert_eq!(rt; bad_line(&rt, b"[a]\n  \n"), 2);
-    assert_eq!(rt; bad_line(&rt, b"# \\\n"), 1);
-    assert_eq!(rt; bad_line(&rt, b"\n\n\xff"), 3);
+fn reads_real_files(rt: HostRuntime) -> Result<(), Fail> {
+    let system = read(rt.alloc(), SYSTEM)?;
+    assert_eq!(rt; system.groups(), 6);
+    assert_eq!(rt; system.get("slot.appfs.1", "parent"), Some("rootfs.1"));
+    let text = system.write()?;
+    assert_eq!(rt; text.as_slice(), SYSTEM.as_slice());
+
+    let manifest = read(rt.alloc(), MANIFEST)?;
+    assert_eq!(rt; manifest.get("update", "description"), Some("  two\tslots"));
+    let hooks = items(
+        rt.alloc(),
+        manifest.get("image.rootfs", "hooks").unwrap_or(""),
+    )?;
+    assert_eq!(rt; hooks.len(), 2);
+    assert_eq!(rt; hooks[1].as_str(), "post-install");
     Ok(())
 }
 
 #[test]
-fn starts_empty(rt: HostRuntime) -> Result<(), Fail> {
-    let file = KeyFile::new(rt.alloc())?;
-    assert_eq!(rt; file.groups(), 0);
+fn refuses(rt: HostRuntime) -> Result<(), Fail> {
+    let rows: [(&[u8], KeyFault); 12] = [
+        (b"x=1", KeyFault::KeyBeforeGroup { number: 1 }),
+        (b"[a]\n=5\n", KeyFault::BadLine { number: 2 }),
+        (b"[a]\nk=\\q", KeyFault::BadEscape { number: 2 }),
+        (b"[a]\nk=1\\", KeyFault::BadEscape { number: 2 }),
+        (b"x=\\q\n", KeyFault::KeyBeforeGroup { number: 1 }),
+        (b"\n \t\n[a]b=1", KeyFault::BadLine { number: 3 }),
+        (b"[a]\nk=1\r", KeyFault::BadLine { number: 2 }),
+        (b"[a]\nk=\x01\n", KeyFault::BadLine { number: 2 }),
+        (b"[]\n", KeyFault::BadLine { number: 1 }),
+        (b"\xff", KeyFault::NotUtf8 { at: 0 }),
+        (b"x\n\xc3\xa4\xc3", KeyFault::NotUtf8 { at: 4 }),
+        (b"# \xe2\x82\xac\x80", KeyFault::NotUtf8 { at: 5 }),
+    ];
+    for (text, fault) in rows.iter() {
+        assert_eq!(rt; fault_of(&rt, text), Some(*fault));
+    }
+    assert!(rt; fault_of(&rt, b"").is_none());
+    assert!(rt; fault_of(&rt, b" # \x01\n[a=b] \t\n\tk.1 =\t\\n\\t\\r\\s\x7f ").is_none());
+    Ok(())
+}
+
+#[test]
+fn keeps_the_limit(rt: HostRuntime) -> Result<(), Fail> {
+    let mut text = vec![in rt.alloc(); b'#'; 1_048_576]?;
+    assert!(rt; fault_of(&rt, text.as_slice()).is_none());
+    text.push(0xff)?;
+    assert_eq!(rt;
+        fault_of(&rt, text.as_slice()),
+        Some(KeyFault::TooLong { length: 1_048_577 })
+    );
+    Ok(())
+}
+
+#[test]
+fn puts(rt: HostRuntime) -> Result<(), Fail> {
+    let mut file = KeyFile::new(rt.alloc())?;
+    if fits("s", "k", " a\n") && fits("s", "l", "") && fits("t", "k", "b") {
+        file.put("s", "k", "")?;
+        file.put("t", "k", "b")?;
+        file.put("s", "l", "")?;
+        file.put("s", "k", " a\n")?;
+    }
+    let text = file.write()?;
+    assert_eq!(rt;
+        text.as_slice(),
+        b"[s]\nk=\\sa\\n\nl=\n\n[t]\nk=b\n".as_slice()
+    );
+    assert!(rt; !fits("a]", "k", "") && !fits("a", "k k", "") && !fits("a", "k", "\x01"));
+    Ok(())
+}
+
+#[test]
+fn messages(rt: HostRuntime) -> Result<(), Fail> {
+    let rows = [
+        (
+            KeyFault::TooLong { length: 1_048_577 },
+            "1048577 bytes are too long",
+        ),
+        (KeyFault::NotUtf8 { at: 7 }, "byte 7 is not UTF-8"),
+        (KeyFault::BadLine { number: 3 }, "line 3 is bad"),
+        (
+            KeyFault::KeyBeforeGroup { number: 1 },
+            "line 1 stands before a group",
+        ),
+        (
+            KeyFault::BadEscape { number: u64::MAX },
+            "line 18446744073709551615 has a bad escape",
+        ),
+    ];
+    for (fault, message) in rows.iter() {
+        let text = format!(in rt.alloc(); "{fault}")?;
+        assert_eq!(rt; text.as_str(), *message);
+    }
     Ok(())
 }

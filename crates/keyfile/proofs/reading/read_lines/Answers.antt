@@ -1,57 +1,62 @@
-use Rattle.std.proofs.Common.{◌≡◌, ◌∙◌, ◌+◌, ◌==◌, ◌∷◌, [], List, drop, Some, None, ap, sym, rules, tests, arith, length-append}
-use Rattle.std.specs.List.{slice_split}
+use Rattle.std.proofs.Common.{◌≡◌, ◌∙◌, ◌+◌, ◌∷◌, [], ℕ, List, length, drop, map, Option, Some, None, Ok, Err, ap, sym, rules, arith, length-append}
+use Rattle.std.specs.Str.Lines.{lines}
 use Rattle.std.proofs.lemmas.Iterator.Consumers.{YieldsList-turn, YieldsList-end}
-use Rattle.std.proofs.lemmas.Iterator.Splits.{YieldsList-from_slice_split}
-use Rattle.keyfile.specs.Groups.{Group}
-use Rattle.keyfile.specs.Lines.{Line, line_of, shown}
-use Rattle.keyfile.specs.Reading.{lines_of, with_line}
-use Rattle.keyfile.proofs.Orders.{after, after-bad, after-good, after-read_lines_of, drop_line, drop_lines}
+use Rattle.std.proofs.lemmas.Iterator.Splits.{YieldsList-from_lines}
+use Rattle.keyfile.specs.Groups.{Group, Text}
+use Rattle.keyfile.specs.Lines.{Line, is_formed, line_of, shown}
+use Rattle.keyfile.specs.Reading.{read_lines_of}
+use Rattle.keyfile.specs.Steps.{after_line}
+use Rattle.keyfile.specs.declared.fault.KeyFault.{KeyFault}
+use Rattle.keyfile.proofs.LineForms.{line_of-formed}
+use Rattle.keyfile.proofs.Orders.{after, after-bad, after-good, after-read_lines_of, drop_line, drop_lines, gives_fault}
 use Rattle.keyfile.proofs.reading.read_lines.Goals as goal
+
+pub take_line-requires : goal.take_line-requires
+take_line-requires c = ap is_formed c.line_of.ensures ∙ line_of-formed c.in-Some.line.now
 
 pub loop-line-preserved : goal.loop-line-preserved
 loop-line-preserved c =
-    let all = slice_split (λ b. b == 10) c.args.bytes.now in
-    let lines = lines_of c.args.bytes.now in
+    let all = lines c.args.text.now in
+    let said = map line_of all in
     let at = c.loop-line.number in
-    let road = YieldsList-from_slice_split _ (λ b. b == 10) c.args.bytes.now (cc) (cc) (cc) (λ x b q k. search (rules, tests)) in
+    let road = YieldsList-from_lines c.args.text.now (cc) in
     let turn = YieldsList-turn road c.loop-line.yielded _ c.loop-line.yielded_by _ _ c.in-Some.line c.in-Some.is c.next.ensures.steps in
-    let next : drop at lines ≡ line_of c.in-Some.line.now ∷ drop (at + 1) lines =
+    let next : drop at said ≡ line_of c.in-Some.line.now ∷ drop (at + 1) said =
     drop_line all at c.in-Some.line.now (omega (arith, turn.0, c.loop-line.invariant.counted)) (rw c.loop-line.invariant.counted turn.1) in
     let is : shown c.line_of.result ≡ line_of c.in-Some.line.now = c.line_of.ensures in
-    let taken : with_line c.loop-line.file (shown c.line_of.result) ≡ Some c.take_line.new.file = rw c.in-Ok-true.field-0-test at c.in-Ok-true.ensures.taken in
     record {
       counted = omega (arith, c.loop-line.invariant.counted, length-append c.loop-line.yielded (c.in-Some.line ∷ []));
-      left = sym (after-good c.loop-line.file at (shown c.line_of.result) (drop (at + 1) lines) c.take_line.new.file taken)
-          ∙ (ap (λ (l : Line). after c.loop-line.file at (l ∷ drop (at + 1) lines)) is
-          ∙ (ap (after c.loop-line.file at) (sym next) ∙ c.loop-line.invariant.left));
+      left = sym (after-good c.loop-line.file c.loop-line.group at (shown c.line_of.result) (drop (at + 1) said) c.take_line.new.file c.in-Ok-take_line.next c.in-Ok-take_line.ensures)
+          ∙ (ap (λ (l : Line). after c.loop-line.file c.loop-line.group at (l ∷ drop (at + 1) said)) is
+          ∙ (ap (after c.loop-line.file c.loop-line.group at) (sym next) ∙ c.loop-line.invariant.left));
     }
 
-pub returns-in-Ok-false : goal.returns-in-Ok-false
-returns-in-Ok-false c =
-    let all = slice_split (λ b. b == 10) c.args.bytes.now in
-    let lines = lines_of c.args.bytes.now in
+pub returns-in-Err : goal.returns-in-Err
+returns-in-Err c =
+    let all = lines c.args.text.now in
+    let said = map line_of all in
     let at = c.loop-line.number in
-    let road = YieldsList-from_slice_split _ (λ b. b == 10) c.args.bytes.now (cc) (cc) (cc) (λ x b q k. search (rules, tests)) in
+    let road = YieldsList-from_lines c.args.text.now (cc) in
     let turn = YieldsList-turn road c.loop-line.yielded _ c.loop-line.yielded_by _ _ c.in-Some.line c.in-Some.is c.next.ensures.steps in
-    let next : drop at lines ≡ line_of c.in-Some.line.now ∷ drop (at + 1) lines =
+    let next : drop at said ≡ line_of c.in-Some.line.now ∷ drop (at + 1) said =
     drop_line all at c.in-Some.line.now (omega (arith, turn.0, c.loop-line.invariant.counted)) (rw c.loop-line.invariant.counted turn.1) in
     let is : shown c.line_of.result ≡ line_of c.in-Some.line.now = c.line_of.ensures in
-    let none : with_line c.loop-line.file (shown c.line_of.result) ≡ None = (rw c.in-Ok-false.field-0-test at c.in-Ok-false.ensures.taken).0 in
-    sym (after-read_lines_of lines)
-    ∙ (ap (λ (gs : List Group). after gs 0 lines) (sym c.in-Ok.ensures)
+    gives_fault c.in-Err.lack c.take_line.new.file (after_line c.loop-line.file c.loop-line.group (at + 1) (shown c.line_of.result)) (read_lines_of said) c.in-Err.ensures
+    (λ (why : KeyFault) refused. sym (after-read_lines_of said)
+    ∙ (ap (λ (gs : List Group). after gs None 0 said) (sym c.in-Ok.ensures)
     ∙ (sym c.loop-line.invariant.left
-    ∙ (ap (after c.loop-line.file at) next
-    ∙ (ap (λ (l : Line). after c.loop-line.file at (l ∷ drop (at + 1) lines)) (sym is)
-    ∙ after-bad c.loop-line.file at (shown c.line_of.result) (drop (at + 1) lines) none))))
+    ∙ (ap (after c.loop-line.file c.loop-line.group at) next
+    ∙ (ap (λ (l : Line). after c.loop-line.file c.loop-line.group at (l ∷ drop (at + 1) said)) (sym is)
+    ∙ after-bad c.loop-line.file c.loop-line.group at (shown c.line_of.result) (drop (at + 1) said) why refused)))))
 
 pub returns : goal.returns
 returns c =
-    let all = slice_split (λ b. b == 10) c.args.bytes.now in
-    let lines = lines_of c.args.bytes.now in
+    let all = lines c.args.text.now in
+    let said = map line_of all in
     let at = c.loop-line.number in
-    let road = YieldsList-from_slice_split _ (λ b. b == 10) c.args.bytes.now (cc) (cc) (cc) (λ x b q k. search (rules, tests)) in
+    let road = YieldsList-from_lines c.args.text.now (cc) in
     let end = YieldsList-end road c.loop-line.yielded _ c.loop-line.yielded_by _ _ c.in-None.is c.next.ensures.steps in
-    sym (after-read_lines_of lines)
-    ∙ (ap (λ (gs : List Group). after gs 0 lines) (sym c.in-Ok.ensures)
+    sym (after-read_lines_of said)
+    ∙ (ap (λ (gs : List Group). after gs None 0 said) (sym c.in-Ok.ensures)
     ∙ (sym c.loop-line.invariant.left
-    ∙ ap (after c.loop-line.file at) (drop_lines all at (omega (arith, end.1, c.loop-line.invariant.counted)))))
+    ∙ ap (after c.loop-line.file c.loop-line.group at) (drop_lines all at (omega (arith, end.1, c.loop-line.invariant.counted)))))

@@ -1,5 +1,6 @@
-use Rattle.std.proofs.Common.{◌≡◌, length, drop}
-use Rattle.keyfile.specs.Reading.{lines_of}
+use Rattle.std.proofs.Common.{◌≡◌, length, drop, map}
+use Rattle.std.specs.Str.Lines.{lines}
+use Rattle.keyfile.specs.Lines.{line_of}
 use Rattle.keyfile.proofs.Orders.{after}
 use Rattle.keyfile.proofs.reading.read_lines.Given as goal
 
@@ -7,5 +8,5 @@ use Rattle.keyfile.proofs.reading.read_lines.Given as goal
 abbrev pub invariant-loop-line : goal.invariant-loop-line
 invariant-loop-line l = record {
   counted : l.number ≡ length l.yielded;
-  left : after l.file l.number (drop l.number (lines_of l.bytes)) ≡ after l.initial.file 0 (lines_of l.bytes);
+  left : after l.file l.group l.number (drop l.number (map line_of (lines l.text))) ≡ after l.initial.file l.initial.group 0 (map line_of (lines l.text));
 }

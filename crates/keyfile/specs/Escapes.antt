@@ -1,0 +1,45 @@
+-- Values as they are written.
+use Rattle.std.specs.Prelude.{ℕ, Bool, ◌==◌, List, [], ◌∷◌, ◌++◌, Option, Some, None, option_map, if◌then◌else◌}
+use Rattle.std.specs.List.{flat_map}
+use Rattle.keyfile.specs.Groups.{Text}
+
+-- the byte that a letter behind a backslash stands for: `s` a space, `n` a line feed, `t` a tab, `r` a carriage return, and a backslash itself
+abbrev pub escape_of : ℕ → Option ℕ
+escape_of letter =
+    if letter == 115 then Some 32
+    else if letter == 110 then Some 10
+    else if letter == 116 then Some 9
+    else if letter == 114 then Some 13
+    else if letter == 92 then Some 92
+    else None
+
+-- the same for the letter at the front of a text, with what follows it
+abbrev pub escape_at : Text → Option (ℕ × Text)
+escape_at [] = None
+escape_at (letter ∷ more) = option_map (λ byte. (byte, more)) (escape_of letter)
+
+-- a byte in front of a value, where both are there
+abbrev pub led_by : Option ℕ → Option Text → Option Text
+led_by (Some byte) (Some text) = Some (byte ∷ text)
+led_by (Some byte) None = None
+led_by None text = None
+
+-- the value that is written so, where each backslash stands before one of the letters
+abbrev pub unescaped : Text → Option Text
+unescaped [] = Some []
+unescaped (b ∷ []) = if b == 92 then None else Some (b ∷ [])
+unescaped (b ∷ c ∷ more) = if b == 92 then led_by (escape_of c) (unescaped more) else option_map (λ text. b ∷ text) (unescaped (c ∷ more))
+
+-- a byte behind the leading run of spaces, as it is written
+abbrev pub escape : ℕ → Text
+escape byte =
+    if byte == 10 then 92 ∷ 110 ∷ []
+    else if byte == 9 then 92 ∷ 116 ∷ []
+    else if byte == 13 then 92 ∷ 114 ∷ []
+    else if byte == 92 then 92 ∷ 92 ∷ []
+    else byte ∷ []
+
+-- a value as it is written: each space of its leading run is escaped, and each line feed, tab, carriage return and backslash
+abbrev pub value_text : Text → Text
+value_text [] = []
+value_text (b ∷ more) = if b == 32 then 92 ∷ 115 ∷ value_text more else escape b ++ flat_map escape more
