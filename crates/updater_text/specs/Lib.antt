@@ -1,6 +1,9 @@
 pub mod Answers
 pub mod Counts
 pub mod Digests
+pub mod Flags
 pub mod Lent
 pub mod Numbers
+pub mod Quotes
 pub mod Sinks
+pub mod Sizes

@@ -2,19 +2,25 @@
 #![tactic(auto)]
 
 mod digest;
+mod flag;
 mod items;
 mod memory_sink;
 mod number;
+mod quoting;
 mod sink;
+mod size;
 mod stops;
 mod text;
 mod writer_sink;
 
 pub use digest::Digest;
+pub use flag::read_flag;
 pub use items::Items;
 pub use memory_sink::MemorySink;
 pub use number::read_number;
+pub use quoting::quote;
 pub use sink::{Failed, Sink, say, tell};
+pub use size::read_size;
 pub use stops::{Fault, Lack, NoMemory, Stop};
 pub use text::Text;
 pub use writer_sink::WriterSink;
