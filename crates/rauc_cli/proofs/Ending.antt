@@ -8,7 +8,7 @@ use Rattle.updater_text.specs.declared.stops.Fault.TheVariants as fault
 use Rattle.updater_text.specs.declared.stops.NoMemory.{NoMemory}
 use Rattle.updater_text.specs.declared.stops.Stop.{Stop}
 use Rattle.updater_text.specs.declared.stops.Stop.TheVariants as stop
-use Rattle.keyfile.specs.declared.reading.KeyFault.TheVariants as key
+use Rattle.keyfile.specs.declared.fault.KeyFault.TheVariants as key
 use Rattle.machine.specs.declared.world.World.{World}
 use Rattle.machine.specs.declared.calls.ReadStop.{ReadStop}
 use Rattle.machine.specs.declared.calls.ReadStop.TheVariants as read

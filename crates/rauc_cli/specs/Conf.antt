@@ -6,7 +6,7 @@ use Rattle.std.specs.Str.{bytes_eq}
 use Rattle.updater_text.specs.Numbers.{number_of}
 use Rattle.keyfile.specs.Groups.{Text, Entry, Group, get_in}
 use Rattle.keyfile.specs.Reading.{read_of}
-use Rattle.keyfile.specs.declared.reading.KeyFault.{KeyFault}
+use Rattle.keyfile.specs.declared.fault.KeyFault.{KeyFault}
 use Rattle.rauc_cli.specs.declared.conf.Slot.{Slot}
 use Rattle.rauc_cli.specs.declared.conf.System.{System}
 use Rattle.rauc_cli.specs.declared.conf.ConfRefusal.{ConfRefusal}

@@ -3,8 +3,8 @@ use Rattle.std.specs.Prelude.{ℕ, Bool, true, false, List, [], ◌++◌, ◌==�
 use Rattle.hex.specs.Hex.{encode_lower}
 use Rattle.updater_text.specs.declared.stops.Fault.{Fault}
 use Rattle.updater_text.specs.declared.stops.Fault.TheVariants as fault
-use Rattle.keyfile.specs.declared.reading.KeyFault.{KeyFault}
-use Rattle.keyfile.specs.declared.reading.KeyFault.TheVariants as key
+use Rattle.keyfile.specs.declared.fault.KeyFault.{KeyFault}
+use Rattle.keyfile.specs.declared.fault.KeyFault.TheVariants as key
 use Rattle.raw_writer.specs.declared.check.PutRefusal.{PutRefusal}
 use Rattle.raw_writer.specs.declared.check.PutRefusal.TheVariants as put
 use Rattle.rauc_cli.specs.declared.command.Command.{Command}
@@ -55,7 +55,10 @@ image_path (command.WriteSlot conf slot image) = image
 -- what is wrong with a key file
 abbrev pub key_cause : KeyFault → List ℕ
 key_cause (key.TooLong n) = codes "configuration: " ++ (decimal n ++ codes " bytes are too long")
+key_cause (key.NotUtf8 n) = codes "configuration: byte " ++ (decimal n ++ codes " is not UTF-8")
 key_cause (key.BadLine n) = codes "configuration: line " ++ (decimal n ++ codes " is bad")
+key_cause (key.KeyBeforeGroup n) = codes "configuration: line " ++ (decimal n ++ codes " stands before a group")
+key_cause (key.BadEscape n) = codes "configuration: line " ++ (decimal n ++ codes " has a bad escape")
 
 -- a group, and a key of it, if one is named
 abbrev pub left_out_cause : List ℕ → List ℕ → List ℕ

@@ -76,7 +76,14 @@ fn key_cause(alloc: Global, fault: &KeyFault) -> Result<String, AllocError>
         KeyFault::TooLong { length } => {
             format!(in alloc; "configuration: {length} bytes are too long")
         }
+        KeyFault::NotUtf8 { at } => format!(in alloc; "configuration: byte {at} is not UTF-8"),
         KeyFault::BadLine { number } => format!(in alloc; "configuration: line {number} is bad"),
+        KeyFault::KeyBeforeGroup { number } => {
+            format!(in alloc; "configuration: line {number} stands before a group")
+        }
+        KeyFault::BadEscape { number } => {
+            format!(in alloc; "configuration: line {number} has a bad escape")
+        }
     }
 }
 

@@ -177,7 +177,8 @@ fn refuses_configurations(rt: HostRuntime) -> Result<(), Fail> {
         ("[slot.rootfs.1]\ndevice=dev/b\n", "[slot.rootfs.1] device bad value"),
         ("[slot.rootfs.1]\ndevice=/dev//b\n", "[slot.rootfs.1] device bad value"),
         ("[system]\nx\n", "line 2 is bad"),
-        ("device=/dev/b\n", "line 1 is bad"),
+        ("device=/dev/b\n", "line 1 stands before a group"),
+        ("[system]\ncompatible=\\x\n", "line 2 has a bad escape"),
     ];
     let alloc = rt.alloc();
     for (conf, cause) in rows {
