@@ -1,7 +1,7 @@
 -- Each call is taken back by its note.
-use Rattle.std.proofs.Common.{◌≡◌, ℕ, ◌+◌, ◌-◌, ◌*◌, ◌^◌, ◌<◌, ◌≤◌, Bool, true, false, not, cond, List, [], ◌∷◌, ◌++◌, length, take, drop, filter, Option, Some, None, refl, sym, ◌∙◌, ap, subst, arith, append_assoc}
+use Rattle.std.proofs.Common.{◌≡◌, ℕ, ◌+◌, ◌-◌, ◌*◌, ◌^◌, ◌<◌, ◌≤◌, Bool, true, false, not, cond, List, [], ◌∷◌, ◌++◌, length, take, drop, filter, Option, Some, refl, sym, ◌∙◌, ap, subst, arith, append_assoc}
 use Rattle.std.specs.Prelude.{bytes_eq, unwrap_or, is_some}
-use Rattle.std.proofs.lemmas.List.{drop-drop, drop_at, length-append, length-drop, length-take, length-take-le, take-append-drop, take-append-le, take_at}
+use Rattle.std.proofs.lemmas.List.{drop-drop, drop_at, length-append, length-drop, length-take-le, take-append-drop, take_at}
 use Rattle.machine.specs.declared.world.Named.{Named}
 use Rattle.machine.specs.declared.world.Span.{Span}
 use Rattle.machine.specs.declared.world.World.{World}
@@ -10,7 +10,7 @@ use Rattle.machine.specs.declared.memory.notes.Undo.TheVariants as undo
 use Rattle.machine.specs.declared.memory.notes.Outcome.TheVariants as outcome
 use Rattle.machine.specs.declared.memory.log.UndoLog.{UndoLog}
 use Rattle.machine.specs.World.{bytes_under, disk, patched, patch_under, written, synced, fetching, Holds}
-use Rattle.machine.specs.Past.{Read, Write, Sync, Done, Scribbled}
+use Rattle.machine.specs.Past.{Read, Write, Sync, Done}
 use Rattle.machine.specs.Undo.{but_last, taken_back}
 use Rattle.machine.specs.Logged.{Noted}
 use Rattle.machine.proofs.Only.{bytes_of}

@@ -1,5 +1,5 @@
 -- The answer to a call, from what was noted of it.
-use Rattle.std.proofs.Common.{◌≡◌, ◌≤◌, ◌<◌, ℕ, Bool, true, false, List, length, Option, Some, None, Result, Ok, Err, OnOk, OnErr, IfOk, IsTrue, refl, sym, ◌∙◌, ap, subst}
+use Rattle.std.proofs.Common.{◌≡◌, ℕ, Bool, true, false, List, Option, Some, None, Result, Ok, Err, OnOk, OnErr, IfOk, IsTrue, refl, sym, ◌∙◌, ap, subst}
 use Rattle.std.specs.Result.{result_unwrap_or}
 use Rattle.machine.specs.declared.calls.CallStop.{CallStop}
 use Rattle.machine.specs.declared.calls.CallStop.TheVariants.{Failed, NoMemory}
@@ -8,8 +8,8 @@ use Rattle.machine.specs.declared.calls.ReadStop.TheVariants as read
 use Rattle.machine.specs.declared.memory.notes.Whole.{Whole}
 use Rattle.machine.specs.declared.memory.notes.Whole.TheVariants.{Bytes, TooLong}
 use Rattle.machine.specs.declared.memory.log.UndoLog.{UndoLog}
-use Rattle.machine.specs.Past.{Call, File, Read, End, Done, Broken, Overlong, Did}
-use Rattle.machine.specs.Calls.{Ends, FileEnds, Found, LongerThan, ReadsFile}
+use Rattle.machine.specs.Past.{Call, File, Read, End, Did}
+use Rattle.machine.specs.Calls.{Ends, FileEnds, ReadsFile}
 use Rattle.machine.specs.Whole.{WholeFound, end_whole}
 use Rattle.machine.specs.Logged.{Kept, Noted, end_if, told_by}
 use Rattle.machine.specs.Numbered.{Settled}

@@ -4,7 +4,7 @@ use Rattle.std.proofs.lemmas.List.{reverse-append}
 use Rattle.machine.specs.declared.world.World.{World}
 use Rattle.machine.specs.declared.memory.notes.Note.{Note}
 use Rattle.machine.specs.declared.memory.log.UndoLog.{UndoLog}
-use Rattle.machine.specs.Past.{Call, File, Size, Read, Write, Sync, End, Done, Broken, Overlong, After, Past, now, more, Did}
+use Rattle.machine.specs.Past.{Call, File, Size, Read, Write, Sync, End, Done, Broken, Overlong, After, now, more, Did}
 use Rattle.machine.specs.Undo.{Left, call_of, end_of, moment_of, past_back, past_of, undone}
 use Rattle.machine.specs.Logged.{Kept, Noted, told_by}
 use Rattle.machine.proofs.Moments.{now-more}

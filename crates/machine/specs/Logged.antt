@@ -1,5 +1,5 @@
 -- A world with its undo log, before and after a call.
-use Rattle.std.specs.Prelude.{◌≡◌, Bool, true, false, List, [], ◌∷◌, ◌++◌}
+use Rattle.std.specs.Prelude.{◌≡◌, Bool, true, false, [], ◌∷◌, ◌++◌}
 use Rattle.machine.specs.declared.memory.notes.Note.{Note}
 use Rattle.machine.specs.declared.memory.log.UndoLog.{UndoLog}
 use Rattle.machine.specs.Past.{Call, End, Done, Broken, Past}

@@ -1,5 +1,5 @@
 -- An undo log: the past of a machine in memory, told back from the world as it is now.
-use Rattle.std.specs.Prelude.{◌≡◌, ◌-◌, List, [], ◌∷◌, ◌++◌, length, take, reverse, is_some, if◌then◌else◌}
+use Rattle.std.specs.Prelude.{◌≡◌, ◌-◌, List, [], ◌∷◌, length, take, reverse, is_some, if◌then◌else◌}
 use Rattle.machine.specs.declared.world.Span.{Span}
 use Rattle.machine.specs.declared.world.World.{World}
 use Rattle.machine.specs.declared.memory.notes.Undo.{Undo}

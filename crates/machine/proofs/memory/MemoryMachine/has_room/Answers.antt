@@ -1,11 +1,9 @@
-use Rattle.std.proofs.Common.{◌≡◌, ◌≤◌, ◌↔◌, ℕ, false, true, List, length, Option, Some, None, IsTrue, sym, ◌∙◌, subst, arith}
-use Rattle.std.specs.Option.{option_map}
+use Rattle.std.proofs.Common.{◌≡◌, ◌↔◌, ℕ, false, List, Some, None, IsTrue, sym, ◌∙◌, subst, arith}
 use Rattle.std.specs.Prelude.{nat_le}
 use Rattle.std.proofs.lemmas.Bool.{leb-true}
 use Rattle.std.proofs.lemmas.Bool.Decides.{nat_tests}
-use Rattle.machine.specs.declared.world.Named.{Named}
 use Rattle.machine.specs.declared.world.World.{World}
-use Rattle.machine.specs.World.{Holds, bytes_under, disk_length}
+use Rattle.machine.specs.World.{Holds, disk_length}
 use Rattle.machine.proofs.Undoing.{now-past_of}
 use Rattle.machine.proofs.memory.MemoryMachine.has_room.Goals as goal
 

@@ -1,4 +1,4 @@
-use Rattle.std.proofs.Common.{Option, ℕ, IfOk, true, sym, subst}
+use Rattle.std.proofs.Common.{IfOk, true, sym, subst}
 use Rattle.machine.specs.declared.world.World.{World}
 use Rattle.machine.specs.World.{size_of}
 use Rattle.machine.specs.Past.{Size}

@@ -1,4 +1,4 @@
-use Rattle.std.proofs.Common.{◌≡◌, ◌≤◌, ◌+◌, Some, None, length, arith, sym, ◌∙◌, ap}
+use Rattle.std.proofs.Common.{◌≡◌, Some, None, length, arith, sym, ◌∙◌, ap}
 use Rattle.machine.proofs.Places.{found_bytes, found_none, found_written, same_some}
 use Rattle.machine.proofs.memory.changes.patch_list.Goals as goal
 
