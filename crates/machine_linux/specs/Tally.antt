@@ -4,6 +4,7 @@ use Rattle.updater_text.specs.Counts.{counted}
 use Rattle.machine.specs.declared.calls.CallStop.{CallStop}
 use Rattle.machine.specs.declared.calls.CallStop.TheVariants.{Failed, NoMemory}
 
+-- the two counts
 pub record Tally : Type 0 where
   pub faults : ℕ
   pub wants : ℕ

@@ -20,6 +20,10 @@ mod tests;
 
 /// A machine over the files and devices of a system. It tells no world. Contracts see its two counts.
 ///
+/// A path names nothing where the system answers ENOENT or ENOTDIR. Every other error of the system
+/// is a fault, as for a directory or where a file ends before the length that it had when it was
+/// opened. Every file counts as a disk.
+///
 /// It keeps open the file that it read at an offset last, and the one that it wrote last, so that
 /// a copy of a whole image opens each once. A file is let go where a call on it fails.
 #[derive(Drop)]
@@ -99,6 +103,7 @@ impl<R: Files + Drop> Linux<R>
 where
     R::File: FileExt,
 {
+    // Reads from the file at the path, and keeps it open.
     fn read_some(&mut self, path: &str, at: u64, into: &mut [u8]) -> Result<usize, CallStop>
         ensures put { IfOk result (PutFront into.old into.new) }
         ensures tally { self.new ≡ self.old }
@@ -113,6 +118,7 @@ where
         Ok(count)
     }
 
+    // Writes all the bytes to the file at the path, and keeps it open.
     fn write_all(&mut self, path: &str, at: u64, from: &[u8]) -> Result<(), CallStop>
         ensures { self.new ≡ self.old }
     {
@@ -124,6 +130,7 @@ where
         Ok(())
     }
 
+    // Syncs the file at the path, and keeps it open.
     fn sync_target(&mut self, path: &str) -> Result<(), CallStop>
         ensures { self.new ≡ self.old }
     {
