@@ -1,14 +1,14 @@
 -- Values as they are written, and read.
-use Rattle.std.proofs.Common.{◌≡◌, ◌<◌, ◌≤◌, ◌+◌, ◌==◌, ◌⊎◌, inl, inr, ℕ, Bool, true, false, List, [], ◌∷◌, ◌++◌, ◌&&◌, ◌||◌, cond, length, take, drop, get_or, Option, Some, None, option_map, if◌then◌else◌, subst, refl, sym, ap, ◌∙◌, arith, zero, suc, Decides, append_assoc}
+use Rattle.std.proofs.Common.{◌≡◌, ◌<◌, ◌≤◌, ◌==◌, inl, inr, ℕ, Bool, true, false, [], ◌∷◌, ◌++◌, ◌||◌, length, get_or, Option, Some, None, option_map, if◌then◌else◌, refl, sym, ap, ◌∙◌, arith, suc, append_assoc}
 use Rattle.std.proofs.lemmas.Bool.{cases_lt}
 use Rattle.std.proofs.lemmas.Bool.Decides.{nat_tests}
 use Rattle.std.proofs.lemmas.List.{append-nil}
 use Rattle.std.proofs.lemmas.Str.{lead_after_ascii}
-use Rattle.std.specs.List.{flat_map, list_all}
+use Rattle.std.specs.List.{list_all}
 use Rattle.std.specs.Option.{option_map_or}
 use Rattle.std.specs.Str.{IsCharBoundary, IsUtf8}
 use Rattle.keyfile.proofs.Bools.{and_true, both}
-use Rattle.keyfile.specs.Escapes.{escape, escape_at, escape_of, led_by, unescaped, value_text}
+use Rattle.keyfile.specs.Escapes.{escape_at, escape_of, led_by, unescaped}
 use Rattle.keyfile.specs.Groups.{Text, is_line_byte, is_value_byte}
 
 some_same : (a b : Text) → Some a ≡ Some b → a ≡ b
@@ -34,7 +34,7 @@ IsPlain text = (i : ℕ) → i < length text → get_or text i 0 ≡ 92 → ⊥
 not_backslash : (b : ℕ) → (b ≡ 92 → ⊥) → (b == 92) ≡ false
 not_backslash b apart = grind (arith, nat_tests)
 
-unescaped-other : (b : ℕ) (rest : Text) → (b ≡ 92 → ⊥) → unescaped (b ∷ rest) ≡ option_map (λ text. b ∷ text) (unescaped rest)
+pub unescaped-other : (b : ℕ) (rest : Text) → (b ≡ 92 → ⊥) → unescaped (b ∷ rest) ≡ option_map (λ text. b ∷ text) (unescaped rest)
 unescaped-other b [] apart = ap (λ (t : Bool). if t then None else Some (b ∷ [])) (not_backslash b apart)
 unescaped-other b (c ∷ more) apart = ap (λ (t : Bool). if t then led_by (escape_of c) (unescaped more) else option_map (λ (text : Text). b ∷ text) (unescaped (c ∷ more))) (not_backslash b apart)
 

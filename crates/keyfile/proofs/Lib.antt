@@ -9,3 +9,6 @@ pub mod Orders
 pub mod Whole
 pub mod Remaining
 pub mod Pieces
+pub mod Escaped
+pub mod Law
+pub mod Texts

@@ -1,13 +1,12 @@
 -- The forms of lines.
-use Rattle.std.proofs.Common.{◌≡◌, ◌<◌, ◌≤◌, ◌+◌, ◌-◌, ◌⊎◌, inl, inr, ℕ, Bool, true, false, List, [], ◌∷◌, ◌++◌, ◌&&◌, cond, length, take, drop, get_or, Option, Some, None, option_and_then, position, ◌==◌, if◌then◌else◌, subst, refl, sym, ap, ◌∙◌, arith, zero, suc, Decides, length-append, lit<}
+use Rattle.std.proofs.Common.{◌≡◌, ◌+◌, ◌-◌, ◌⊎◌, inl, inr, ℕ, Bool, true, false, [], ◌∷◌, ◌++◌, ◌&&◌, cond, length, take, drop, get_or, Option, Some, None, option_and_then, position, ◌==◌, if◌then◌else◌, refl, sym, ap, ◌∙◌, arith, suc, Decides, length-append}
 use Rattle.std.proofs.Math.Seq.{take-append_seam, take-suc}
 use Rattle.std.proofs.lemmas.List.{reverse-append, take-append-le, take_all}
-use Rattle.std.proofs.lemmas.List.Sums.{prefix_len-le-length, suffix_len-le-length, suffix_len_is}
 use Rattle.std.proofs.lemmas.Bool.Decides.{nat_tests}
 use Rattle.std.proofs.lemmas.Slice.Eq.{bytes_eq-Decides}
 use Rattle.std.specs.List.{list_all, prefix_len, suffix_len}
 use Rattle.std.specs.Str.{bytes_eq}
-use Rattle.keyfile.specs.Groups.{Text, Entry, is_key, is_line_byte, is_name}
+use Rattle.keyfile.specs.Groups.{Text, is_key, is_line_byte, is_name}
 use Rattle.keyfile.specs.Lines.{after_blanks, before_blanks, bracketed, entry_of, entry_from, heading_of, inner, is_blank, is_formed, is_silent, line_of, nothing, told_by}
 
 pub false_when : {P : Type 0} (r : Bool) → Decides r P → ¬ P → r ≡ false

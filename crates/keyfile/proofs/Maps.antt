@@ -1,5 +1,5 @@
 -- What the map of maps holds, as the list of groups.
-use Rattle.std.proofs.Common.{◌≡◌, ◌∙◌, ◌-◌, ap, sym, refl, ℕ, zero, suc, Bool, true, false, ◌||◌, not, cond, List, [], ◌∷◌, ◌++◌, length, Some, None, if◌then◌else◌, option_map, option_and_then, find, is_some, slice_get, position, ◌+◌, arith}
+use Rattle.std.proofs.Common.{◌≡◌, ◌∙◌, ap, sym, refl, ℕ, zero, suc, Bool, true, false, ◌||◌, not, cond, List, [], ◌∷◌, ◌++◌, length, Some, None, if◌then◌else◌, option_map, option_and_then, find, is_some, slice_get, position, ◌+◌, arith}
 use Rattle.std.specs.String.{string_bytes, string_eq}
 use Rattle.std.specs.Str.{bytes_eq}
 use Rattle.std.specs.Map.{keys_of, lookup, set_value, values_of}

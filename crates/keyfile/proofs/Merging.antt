@@ -1,6 +1,5 @@
 -- The groups of lines, with a line more.
-use Rattle.std.proofs.Common.{◌≡◌, ◌∙◌, ap, sym, refl, ℕ, Bool, true, false, not, ◌||◌, cond, List, [], ◌∷◌, ◌++◌, map, Option, Some, None, if◌then◌else◌}
-use Rattle.std.specs.Prelude.{filter_map, fold}
+use Rattle.std.proofs.Common.{◌≡◌, ◌∙◌, ap, sym, refl, Bool, true, false, ◌||◌, List, [], ◌∷◌, ◌++◌, map, Option, Some, None, if◌then◌else◌}
 use Rattle.std.proofs.lemmas.Bool.{false≢true}
 use Rattle.std.proofs.lemmas.List.{append-nil, map-append}
 use Rattle.std.proofs.lemmas.List.Elements.{filter_map-append}
@@ -8,7 +7,7 @@ use Rattle.std.proofs.lemmas.List.Sums.{fold-append}
 use Rattle.std.specs.List.{cons_option, position_or_len}
 use Rattle.std.specs.Str.{bytes_eq}
 use Rattle.keyfile.proofs.Distinct.{bytes_eq-swap, equal_text, distinct-distinct, distinct-more, has_group-table, is_in, is_in-distinct, place_of-table, position-distinct, put_at-table, put_entry-new, put_entry-table, table, table-all, table-same}
-use Rattle.keyfile.specs.Groups.{Text, Entry, Group, has_group, opened, place_of, put_at, put_entry}
+use Rattle.keyfile.specs.Groups.{Text, Entry, opened, place_of, put_at, put_entry}
 use Rattle.keyfile.specs.Reading.{Placed, distinct, entries_under, grouped, last_value, merged}
 
 last_value-more : (es : List Entry) (k v x : Text) (b : Bool) → bytes_eq x k ≡ b → last_value (es ++ (k, v) ∷ []) x ≡ (if b then v else last_value es x)

@@ -1,17 +1,16 @@
 -- Lines read one after another.
-use Rattle.std.proofs.Common.{◌≡◌, ◌∙◌, ◌+◌, ◌<◌, ◌⊎◌, inl, inr, ap, sym, refl, subst, ℕ, suc, Bool, true, false, ◌||◌, cond, List, [], ◌∷◌, ◌++◌, length, take, drop, map, get_or, Option, Some, None, Result, Ok, Err, is_some, option_map, if◌then◌else◌, arith, append_assoc, length-append, drop-cons}
+use Rattle.std.proofs.Common.{◌≡◌, ◌∙◌, ◌+◌, ◌<◌, ◌⊎◌, inl, inr, ap, sym, refl, subst, ℕ, suc, Bool, true, false, ◌||◌, List, [], ◌∷◌, ◌++◌, length, take, drop, map, get_or, Option, Some, None, Result, Ok, Err, is_some, option_map, if◌then◌else◌, arith, append_assoc, length-append, drop-cons}
 use Rattle.std.specs.Prelude.{filter_map, unwrap_or}
 use Rattle.std.proofs.Math.Seq.{take-append_seam}
-use Rattle.std.proofs.lemmas.Bool.{false≢true}
 use Rattle.std.proofs.lemmas.List.{append-nil, drop_all, map-append}
 use Rattle.std.specs.List.{cons_option, drop-map, enumerate_from, position_or_len}
 use Rattle.std.specs.Str.{bytes_eq}
 use Rattle.keyfile.proofs.Distinct.{equal_text, is_in}
 use Rattle.keyfile.proofs.Merging.{grouped-entry, grouped-heading, place_of-grouped, position-placed}
 use Rattle.keyfile.specs.Escapes.{unescaped}
-use Rattle.keyfile.specs.Groups.{Text, Entry, Group, opened, place_of, put_at}
+use Rattle.keyfile.specs.Groups.{Text, Group, place_of}
 use Rattle.keyfile.specs.Lines.{Line, nothing, heading, entry, bad, line_of}
-use Rattle.keyfile.specs.Reading.{Gives, Placed, distinct, fault_of, faults_of, group_below, grouped, groups_of, placed, placed_entry, read_lines_of, unless_faulty}
+use Rattle.keyfile.specs.Reading.{Gives, Placed, distinct, fault_of, group_below, grouped, groups_of, placed, placed_entry, read_lines_of, unless_faulty}
 use Rattle.keyfile.specs.Steps.{State, Took, after_entry, after_line}
 use Rattle.updater_text.specs.declared.stops.Lack.{Lack}
 use Rattle.updater_text.specs.declared.stops.Lack.TheVariants as lack

@@ -1,5 +1,5 @@
 -- The pieces of list values.
-use Rattle.std.proofs.Common.{◌≡◌, ◌∙◌, ◌==◌, ◌++◌, ap, sym, refl, ℕ, Bool, true, false, List, [], ◌∷◌, length, if◌then◌else◌}
+use Rattle.std.proofs.Common.{◌≡◌, ◌∙◌, ◌==◌, ◌++◌, ap, refl, Bool, true, false, List, [], ◌∷◌, length, if◌then◌else◌}
 use Rattle.keyfile.specs.Groups.{Text}
 use Rattle.keyfile.specs.Items.{without_empty_last}
 

@@ -1,5 +1,5 @@
 -- What is left to write.
-use Rattle.std.proofs.Common.{◌≡◌, Bool, true, false, List, ◌∷◌, ◌++◌, []}
+use Rattle.std.proofs.Common.{Bool, true, false, List, ◌∷◌, ◌++◌, []}
 use Rattle.std.specs.List.{flat_map}
 use Rattle.keyfile.specs.Canonical.{canonical, group_text}
 use Rattle.keyfile.specs.Escapes.{escape, value_text}

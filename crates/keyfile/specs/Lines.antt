@@ -1,8 +1,7 @@
 -- What a line of a key file says.
-use Rattle.std.specs.Prelude.{ℕ, ◌+◌, ◌-◌, Bool, true, false, ◌&&◌, ◌||◌, not, ◌==◌, List, [], ◌∷◌, ◌++◌, length, take, drop, slice_index, position, Option, Some, None, is_some, option_map, option_and_then, if◌then◌else◌}
+use Rattle.std.specs.Prelude.{ℕ, ◌+◌, ◌-◌, Bool, true, ◌&&◌, ◌||◌, ◌==◌, [], ◌∷◌, ◌++◌, length, take, drop, slice_index, position, Option, Some, None, option_and_then, if◌then◌else◌}
 use Rattle.std.specs.Str.{bytes_eq}
 use Rattle.std.specs.List.{list_all, prefix_len, suffix_len}
-use Rattle.std.specs.Borrow.{Bor}
 use Rattle.keyfile.specs.Groups.{Text, Entry, is_key, is_line_byte, is_name}
 use Rattle.keyfile.specs.declared.line.Line.{Line as ReadLine}
 use Rattle.keyfile.specs.declared.line.Line.TheVariants as read

@@ -1,7 +1,8 @@
-ghost use Rattle.std.specs.Prelude.{◌≡◌, [], IfOk, IsTrue, OnErr, OnOk, length, option_copied, option_map, slice_get, string_bytes};
+ghost use Rattle.std.specs.Prelude.{◌≡◌, ◌≤◌, [], IfOk, IsTrue, OnErr, OnOk, length, option_copied, option_map, slice_get, string_bytes};
 ghost use Rattle.std.specs.Option.{option_map_or};
 ghost use Rattle.keyfile.specs.Canonical.{canonical};
 ghost use Rattle.keyfile.specs.Groups.{entry_at, get_in, is_key, is_name, is_value, may_be_put, opened, place_of, put_at, put_in};
+ghost use Rattle.keyfile.specs.Reading.{read_of};
 
 use crate::writing::write_groups;
 use indexmap::IndexMap;
@@ -117,14 +118,23 @@ impl KeyFile {
     }
 
     /// The text of the key file: for each group `[name]` and for each of its keys `key=value`, with an
-    /// empty line between each two groups. In a value each space of the leading run is written `\\s`,
-    /// and each line feed, tab, carriage return and backslash `\\n`, `\\t`, `\\r` and `\\\\`.
+    /// empty line between each two groups. In a value each space of the leading run is written `\s`,
+    /// and each line feed, tab, carriage return and backslash `\n`, `\t`, `\r` and `\\`.
     pub fn write(&self) -> Result<Vec<u8>, NoMemory>
-        ensures { IfOk result (λ text. text.items ≡ canonical self.now) }
+        ensures canonical { IfOk result (λ text. text.items ≡ canonical self.now) }
+        ensures reads_back { IfOk result (λ text. length text.items ≤ 1048576 → read_of text.items ≡ Ok self.now) }
     {
         let mut text = Vec::new(self.alloc);
         write_groups(&mut text, &self.groups)?;
         Ok(text)
+    }
+
+    /// The text that `write` gives is read as this key file again, where `read` takes one so long. The
+    /// call does nothing: it is there for this promise.
+    pub fn reads_back(&self)
+        ensures { length (canonical self.now) ≤ 1048576 → read_of (canonical self.now) ≡ Ok self.now }
+    {
+        let _ = &self.groups;
     }
 
     // The place of the group of this name, which goes last where it is new.

@@ -1,7 +1,7 @@
-use Rattle.std.proofs.Common.{◌≡◌, ◌∙◌, ◌==◌, ◌++◌, ◌∷◌, [], List, Bool, ap, sym, length, if◌then◌else◌}
+use Rattle.std.proofs.Common.{◌≡◌, ◌∙◌, ◌==◌, ◌++◌, ◌∷◌, [], Bool, ap, sym, length, if◌then◌else◌}
 use Rattle.std.specs.List.{slice_split}
 use Rattle.keyfile.specs.Groups.{Text}
-use Rattle.keyfile.specs.Items.{items_of, without_empty_last}
+use Rattle.keyfile.specs.Items.{without_empty_last}
 use Rattle.keyfile.proofs.Pieces.{without_empty_last-push}
 use Rattle.keyfile.proofs.list.items.Goals as goal
 

@@ -1,6 +1,5 @@
 use Rattle.std.proofs.Common.{◌≡◌, ◌∙◌, ℕ, List, Result, Err, map, ap, subst, sym, arith}
 use Rattle.std.specs.Str.Lines.{lines}
-use Rattle.std.specs.Str.Lossy.{utf8_valid_len}
 use Rattle.keyfile.specs.Groups.{Group, Text}
 use Rattle.keyfile.specs.Lines.{line_of}
 use Rattle.keyfile.specs.Reading.{Gives, read_lines_of, read_of}

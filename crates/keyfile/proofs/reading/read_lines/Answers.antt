@@ -1,8 +1,8 @@
-use Rattle.std.proofs.Common.{◌≡◌, ◌∙◌, ◌+◌, ◌∷◌, [], ℕ, List, length, drop, map, Option, Some, None, Ok, Err, ap, sym, rules, arith, length-append}
+use Rattle.std.proofs.Common.{◌≡◌, ◌∙◌, ◌+◌, ◌∷◌, [], List, drop, map, None, ap, sym, arith, length-append}
 use Rattle.std.specs.Str.Lines.{lines}
 use Rattle.std.proofs.lemmas.Iterator.Consumers.{YieldsList-turn, YieldsList-end}
 use Rattle.std.proofs.lemmas.Iterator.Splits.{YieldsList-from_lines}
-use Rattle.keyfile.specs.Groups.{Group, Text}
+use Rattle.keyfile.specs.Groups.{Group}
 use Rattle.keyfile.specs.Lines.{Line, is_formed, line_of, shown}
 use Rattle.keyfile.specs.Reading.{read_lines_of}
 use Rattle.keyfile.specs.Steps.{after_line}

@@ -1,8 +1,8 @@
-use Rattle.std.proofs.Common.{◌≡◌, ◌∙◌, ◌++◌, ◌∷◌, [], List, Some, Bool, true, false, ap, sym, is_some, length}
+use Rattle.std.proofs.Common.{◌≡◌, ◌∙◌, ◌++◌, ◌∷◌, [], List, true, false, ap, sym}
 use Rattle.std.proofs.lemmas.List.{length-map}
 use Rattle.std.specs.String.{string_bytes, string_eq}
 use Rattle.indexmap.specs.IndexMap.{insert_entry}
-use Rattle.keyfile.specs.Groups.{Entry, Group, Text, entries_in, groups_in, has_group, is_key_file, opened, place_of}
+use Rattle.keyfile.specs.Groups.{Group, Text, entries_in, groups_in, has_group, is_key_file, opened, place_of}
 use Rattle.keyfile.proofs.Keeping.{opened-kept}
 use Rattle.keyfile.proofs.Maps.{groups_in-insert_entry, has_group-lookup, opened-new, opened-there, place_of-new, position-found, Inner, Name}
 use Rattle.keyfile.proofs.key_file.KeyFile.open.Goals as goal

@@ -1,8 +1,8 @@
-use Rattle.std.proofs.Common.{◌≡◌, ◌∙◌, List, Some, None, true, ap, sym, rules, slice_get}
+use Rattle.std.proofs.Common.{◌≡◌, ◌∙◌, List, Some, None, ap, sym, rules, slice_get}
 use Rattle.std.specs.Map.{values_of}
-use Rattle.std.specs.String.{string_bytes, string_eq}
-use Rattle.indexmap.specs.IndexMap.{insert_entry, set_value_at}
-use Rattle.keyfile.specs.Groups.{Entry, Group, Text, entries_in, groups_in, is_key_file, put_at, put_entry}
+use Rattle.std.specs.String.{string_bytes}
+use Rattle.indexmap.specs.IndexMap.{set_value_at}
+use Rattle.keyfile.specs.Groups.{Group, Text, entries_in, groups_in, is_key_file, put_at, put_entry}
 use Rattle.keyfile.proofs.Keeping.{put_at-kept}
 use Rattle.keyfile.proofs.Maps.{entries_in-insert_entry, groups_in-set_same_at, groups_in-set_value_at, put_at-nowhere}
 use Rattle.keyfile.proofs.key_file.KeyFile.put_at.Goals as goal
