@@ -1,6 +1,10 @@
-//! The variables of a boot loader.
+//! The boot loader of a system, and its variables.
 #![tactic(auto)]
 
+mod boot_kind;
+#[cfg(test)]
+mod tests;
 mod vars;
 
+pub use boot_kind::BootKind;
 pub use vars::Vars;

@@ -12,3 +12,4 @@ pub mod Pieces
 pub mod Escaped
 pub mod Law
 pub mod Texts
+mod Names

@@ -10,7 +10,8 @@ use Rattle.keyfile.proofs.Merging.{grouped-entry, grouped-heading, place_of-grou
 use Rattle.keyfile.specs.Escapes.{unescaped}
 use Rattle.keyfile.specs.Groups.{Text, Group, place_of}
 use Rattle.keyfile.specs.Lines.{Line, nothing, heading, entry, bad, line_of}
-use Rattle.keyfile.specs.Reading.{Gives, Placed, distinct, fault_of, group_below, grouped, groups_of, placed, placed_entry, read_lines_of, unless_faulty}
+use Rattle.updater_text.specs.Answers.{Gives}
+use Rattle.keyfile.specs.Reading.{Placed, distinct, fault_of, group_below, grouped, groups_of, placed, placed_entry, read_lines_of, unless_faulty}
 use Rattle.keyfile.specs.Steps.{State, Took, after_entry, after_line}
 use Rattle.updater_text.specs.declared.stops.Lack.{Lack}
 use Rattle.updater_text.specs.declared.stops.Lack.TheVariants as lack

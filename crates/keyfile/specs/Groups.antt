@@ -1,5 +1,6 @@
 -- A key file as the list of its groups, each with the list of its keys and values.
-use Rattle.std.specs.Prelude.{ℕ, Bool, true, ◌&&◌, ◌||◌, not, ◌==◌, nat_le, List, [], ◌∷◌, ◌++◌, Option, map, find, zero, suc, option_map, option_and_then, if◌then◌else◌, length, slice_get, string_bytes}
+use Rattle.std.specs.Prelude.{◌≡◌, ◌+◌, ℕ, Bool, true, false, ◌&&◌, ◌||◌, not, ◌==◌, nat_le, List, [], ◌∷◌, ◌++◌, Option, Some, None, map, find, fold, filter, filter_map, zero, suc, option_map, option_and_then, if◌then◌else◌, length, slice_get, string_bytes}
+use Rattle.std.specs.Option.{option_map_or}
 use Rattle.std.specs.Str.{bytes_eq}
 use Rattle.std.specs.List.{list_all, list_any, position_or_len}
 use Rattle.std.specs.declared.alloc.Global.{Global}
@@ -40,6 +41,10 @@ get_in groups group key = option_and_then (λ g. get_entry g.1 key) (find (λ g.
 -- the entry at a place of a group at a place, where it is there
 abbrev pub entry_at : List Group → ℕ → ℕ → Option Entry
 entry_at groups group at = option_and_then (λ g. slice_get g.1 at) (slice_get groups group)
+
+-- how many entries the group at a place has
+abbrev pub key_count : List Group → ℕ → ℕ
+key_count groups group = option_map_or (λ g. length g.1) (slice_get groups group) 0
 
 -- the place of the group of this name, or else the number of groups
 abbrev pub place_of : List Group → Text → ℕ

@@ -89,9 +89,3 @@ read_of text =
     if nat_lt 1048576 (length text) then Err (fault.TooLong (length text))
     else if is_utf8 text then read_lines_of (map line_of (lines text))
     else Err (fault.NotUtf8 (utf8_valid_len text))
-
--- a call gave this; or memory was wanting
-abbrev pub Gives : Result (List Group) (Lack KeyFault) → Result (List Group) KeyFault → Type 0
-Gives (Ok groups) wanted = wanted ≡ Ok groups
-Gives (Err (lack.Refused refusal)) wanted = wanted ≡ Err refusal
-Gives (Err lack.NoMemory) wanted = Unit {0}

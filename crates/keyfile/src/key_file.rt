@@ -1,7 +1,8 @@
-ghost use Rattle.std.specs.Prelude.{◌≡◌, ◌≤◌, [], IfOk, IsTrue, OnErr, OnOk, length, option_copied, option_map, slice_get, string_bytes};
-ghost use Rattle.std.specs.Option.{option_map_or};
+ghost use Rattle.std.specs.Prelude.{◌≡◌, ◌≤◌, [], IfOk, IsTrue, OnErr, OnOk, length, map, option_copied, option_map, slice_get, string_bytes};
+ghost use Rattle.std.specs.List.{IsDistinct};
+ghost use Rattle.std.specs.Str.{bytes_eq};
 ghost use Rattle.keyfile.specs.Canonical.{canonical};
-ghost use Rattle.keyfile.specs.Groups.{entry_at, get_in, is_key, is_name, is_value, may_be_put, opened, place_of, put_at, put_in};
+ghost use Rattle.keyfile.specs.Groups.{entry_at, get_in, is_key, is_name, is_value, key_count, may_be_put, opened, place_of, put_at, put_in};
 ghost use Rattle.keyfile.specs.Reading.{read_of};
 
 use crate::writing::write_groups;
@@ -50,11 +51,12 @@ impl KeyFile {
         Some(value.as_str())
     }
 
-    /// How many groups there are.
+    /// How many groups there are. Their names differ.
     pub fn groups(&self) -> usize
-        ensures { result ≡ length self.now }
+        ensures count { result ≡ length self.now }
+        ensures differ { IsDistinct bytes_eq (map (λ g. g.0) self.now) }
     {
-        self.groups.len()
+        self.groups.as_slice().len()
     }
 
     /// The name of the group at a place, counted from 0; None where there is none.
@@ -63,16 +65,6 @@ impl KeyFile {
     {
         let (name, _) = self.groups.get_index(at)?;
         Some(name.as_str())
-    }
-
-    /// How many keys the group at a place has, counted from 0; 0 where there is no such group.
-    pub fn keys(&self, group: usize) -> usize
-        ensures { result ≡ option_map_or (λ g. length g.1) (slice_get self.now group) 0 }
-    {
-        match self.groups.get_index(group) {
-            Some((_, entries)) => entries.len(),
-            None => 0,
-        }
     }
 
     /// The key at a place of the group at a place, both counted from 0; None where there is none.
@@ -91,6 +83,16 @@ impl KeyFile {
         let (_, entries) = self.groups.get_index(group)?;
         let (_, value) = entries.get_index(at)?;
         Some(value.as_str())
+    }
+
+    /// How many keys the group at a place has, counted from 0; none where there is no such group.
+    pub fn keys(&self, group: usize) -> usize
+        ensures { result ≡ key_count self.now group }
+    {
+        match self.groups.get_index(group) {
+            Some((_, entries)) => entries.len(),
+            None => 0,
+        }
     }
 
     /// Gives a key of a group a value. A new group or key goes last, and a present key keeps its place.

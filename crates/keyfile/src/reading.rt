@@ -4,7 +4,8 @@ ghost use Rattle.std.specs.List.{list_all};
 ghost use Rattle.keyfile.specs.Escapes.{unescaped};
 ghost use Rattle.keyfile.specs.Groups.{is_key, is_line_byte};
 ghost use Rattle.keyfile.specs.Lines.{is_formed, line_of, shown};
-ghost use Rattle.keyfile.specs.Reading.{Gives, read_lines_of, read_of};
+ghost use Rattle.updater_text.specs.Answers.{Gives};
+ghost use Rattle.keyfile.specs.Reading.{read_lines_of, read_of};
 ghost use Rattle.keyfile.specs.Steps.{Took, after_entry, after_line};
 
 use crate::escape::unescape;

@@ -1,3 +1,6 @@
+ghost use Rattle.std.specs.Prelude.{◌≡◌};
+ghost use Rattle.updater_text.specs.declared.stops.Lack.TheVariants as lack;
+
 use std::alloc::{AllocError, AllocFailed};
 
 /// Memory was wanting.
@@ -21,6 +24,14 @@ impl<T: Drop> From<AllocFailed<T>> for NoMemory {
 pub enum Lack<R> {
     Refused(R),
     NoMemory,
+}
+
+impl<R> From<NoMemory> for Lack<R> {
+    ghost from_gives = { λ _ given. given ≡ lack.NoMemory };
+
+    fn from(_: NoMemory) -> Self {
+        Lack::NoMemory
+    }
 }
 
 /// The kind of a machine call that failed.

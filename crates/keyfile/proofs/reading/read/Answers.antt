@@ -2,7 +2,8 @@ use Rattle.std.proofs.Common.{◌≡◌, ◌∙◌, ℕ, List, Result, Err, map,
 use Rattle.std.specs.Str.Lines.{lines}
 use Rattle.keyfile.specs.Groups.{Group, Text}
 use Rattle.keyfile.specs.Lines.{line_of}
-use Rattle.keyfile.specs.Reading.{Gives, read_lines_of, read_of}
+use Rattle.updater_text.specs.Answers.{Gives}
+use Rattle.keyfile.specs.Reading.{read_lines_of, read_of}
 use Rattle.keyfile.specs.declared.fault.KeyFault.{KeyFault}
 use Rattle.keyfile.specs.declared.fault.KeyFault.TheVariants as fault
 use Rattle.keyfile.proofs.Whole.{read_of-bytes, read_of-text}

@@ -1,0 +1,9 @@
+mod Cases
+mod Entries
+mod FirstOf
+mod Lists
+mod Mandatory
+mod Names
+mod Numbered
+mod Slashes
+mod SlotGroups

@@ -1,0 +1,14 @@
+-- The mandatory keys of the slots that were read.
+use Rattle.std.proofs.Common.{◌≡◌, List, map, codes, sym, ◌∙◌}
+use Rattle.keyfile.specs.Groups.{Text, Group}
+use Rattle.system_conf.specs.Lists.{first_of}
+use Rattle.system_conf.specs.Refusals.{missing_at, device_keys}
+use Rattle.system_conf.specs.Slots.{parts, slot_parts, slot_groups}
+use Rattle.system_conf.specs.declared.slot_group.SlotGroup.{SlotGroup}
+use Rattle.system_conf.proofs.FirstOf.{first_of-map}
+use Rattle.system_conf.proofs.SlotGroups.{first_of-groups}
+
+pub first_of-device_keys : (groups : List Group) (slots : List SlotGroup) → map parts slots ≡ slot_parts groups
+    → first_of (λ (s : SlotGroup). missing_at groups (s.group.now, codes "device")) slots ≡ first_of (missing_at groups) (device_keys groups)
+first_of-device_keys groups slots h =
+    first_of-groups (λ (g : Text). missing_at groups (g, codes "device")) groups slots h ∙ sym (first_of-map (missing_at groups) (λ (g : Text). (g, codes "device")) (slot_groups groups))

@@ -1,0 +1,12 @@
+use Rattle.std.proofs.Common.{ℕ, Option, ◌∙◌, ap}
+use Rattle.std.specs.Prelude.{option_and_then}
+use Rattle.std.specs.Str.{bytes_eq}
+use Rattle.keyfile.specs.Groups.{Text}
+use Rattle.system_conf.specs.Slots.{slot_called}
+use Rattle.system_conf.proofs.SlotGroups.{position-names}
+use Rattle.system_conf.proofs.read_slots.parent_of.Goals as goal
+
+pub returns-in-Some : goal.returns-in-Some
+returns-in-Some c =
+    c.slot_called.ensures ∙ position-names (λ (n : Text). bytes_eq n c.in-Some.name.now) c.args.file.now c.args.groups.now c.requires
+    ∙ ap (λ (o : Option Text). option_and_then (slot_called c.args.file.now) o) c.in-Some.ensures

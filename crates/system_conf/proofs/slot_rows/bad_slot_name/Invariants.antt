@@ -1,0 +1,7 @@
+use Rattle.std.proofs.Common.{◌≡◌, take, None}
+use Rattle.system_conf.specs.Lists.{first_of}
+use Rattle.system_conf.specs.Refusals.{misnamed}
+use Rattle.system_conf.proofs.slot_rows.bad_slot_name.Given as goal
+
+abbrev pub invariant-loop-at : goal.invariant-loop-at
+invariant-loop-at l = first_of misnamed (take l.at l.file) ≡ None

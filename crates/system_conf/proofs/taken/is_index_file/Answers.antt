@@ -1,0 +1,17 @@
+use Rattle.std.proofs.Common.{Option, false, sym, ◌∙◌, ap, subst}
+use Rattle.std.specs.Prelude.{IfOk}
+use Rattle.std.specs.Option.{option_map_or}
+use Rattle.std.specs.Str.{bytes_eq}
+use Rattle.keyfile.specs.Groups.{Text}
+use Rattle.system_conf.specs.Refusals.{index_file, has_index}
+use Rattle.system_conf.specs.Slots.{slot_names}
+use Rattle.system_conf.proofs.SlotGroups.{list_any-names}
+use Rattle.system_conf.proofs.FirstOf.{is_along}
+use Rattle.system_conf.proofs.taken.is_index_file.Goals as goal
+
+pub returns-in-Some : goal.returns-in-Some
+returns-in-Some c =
+    is_along c.is_index_in.result _ _
+    (list_any-names (λ (n : Text). bytes_eq c.args.path.now (index_file c.in-Some.directory.now n)) c.args.file.now c.args.slots.now c.requires
+    ∙ ap (λ (o : Option Text). option_map_or (λ directory. has_index directory c.args.path.now (slot_names c.args.file.now)) o false) c.in-Some.ensures)
+    c.is_index_in.ensures

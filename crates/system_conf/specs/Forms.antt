@@ -1,0 +1,90 @@
+-- The forms that the values of a configuration have.
+use Rattle.std.specs.Prelude.{ℕ, ◌+◌, ◌-◌, ◌==◌, Bool, true, false, ◌&&◌, ◌||◌, not, nat_le, List, [], ◌∷◌, ◌++◌, codes, length, take, drop, slice_index, Option, Some, None, is_some, option_and_then, if◌then◌else◌}
+use Rattle.std.specs.List.{list_all, slice_split}
+use Rattle.std.specs.Str.{bytes_eq}
+use Rattle.updater_text.specs.Flags.{flag_of}
+use Rattle.updater_text.specs.Numbers.{number_of}
+use Rattle.keyfile.specs.Groups.{Text}
+use Rattle.system_conf.specs.Lists.{is_among, passing}
+use Rattle.system_conf.specs.declared.form.Form.{Form}
+use Rattle.system_conf.specs.declared.form.Form.TheVariants as form
+
+-- the words of the boot loaders
+abbrev pub loaders : List Text
+loaders = codes "grub" ∷ codes "uboot" ∷ codes "barebox" ∷ codes "efi" ∷ codes "custom" ∷ codes "noop" ∷ []
+
+-- the words of the slots' types: three that are written to, and those that are not
+abbrev pub slot_types : List Text
+slot_types =
+    codes "raw" ∷ codes "ext4" ∷ codes "vfat"
+    ∷ codes "nand" ∷ codes "nor" ∷ codes "ubivol" ∷ codes "ubifs" ∷ codes "jffs2"
+    ∷ codes "boot-emmc" ∷ codes "boot-gpt-switch" ∷ codes "boot-mbr-switch" ∷ codes "boot-raw-fallback" ∷ []
+
+-- not empty, and at most 1,024 bytes
+abbrev pub is_short : Text → Bool
+is_short text = nat_le 1 (length text) && nat_le (length text) 1024
+
+-- no control character
+abbrev pub is_path_byte : ℕ → Bool
+is_path_byte byte = nat_le 32 byte && not (byte == 127)
+
+-- a part of a path: not empty, `.` or `..`
+abbrev pub is_part : Text → Bool
+is_part part = not (length part == 0) && (not (bytes_eq part (codes ".")) && not (bytes_eq part (codes "..")))
+
+-- a slash, and parts with a slash between them
+abbrev pub has_parts : Text → Bool
+has_parts [] = false
+has_parts (first ∷ rest) = (first == 47) && list_all is_part (slice_split (λ b. b == 47) rest)
+
+-- an absolute path of at most 4,096 bytes
+abbrev pub is_path : Text → Bool
+is_path text = nat_le (length text) 4096 && (list_all is_path_byte text && has_parts text)
+
+-- without one slash at the end, where there is one
+abbrev pub without_slash : Text → Text
+without_slash text = if slice_index text (length text - 1) == 47 then take (length text - 1) text else text
+
+-- the path of a directory, which may end in a slash, of at most 4,096 bytes with it
+abbrev pub is_directory : Text → Bool
+is_directory text = nat_le (length text) 4096 && is_path (without_slash text)
+
+-- a byte of a bootname: from 33 to 126, and none of `=`, `,`, `;` and `"`
+abbrev pub is_name_byte : ℕ → Bool
+is_name_byte byte = (nat_le 33 byte && nat_le byte 126) && (not (byte == 61) && (not (byte == 44) && (not (byte == 59) && not (byte == 34))))
+
+-- a bootname
+abbrev pub is_bootname : Text → Bool
+is_bootname text = is_short text && list_all is_name_byte text
+
+-- a number from 1 to 9
+abbrev pub attempts_of : Text → Option ℕ
+attempts_of text = passing (λ n. nat_le 1 n && nat_le n 9) (number_of text)
+
+-- the value has the form
+abbrev pub fits : Form → Text → Bool
+fits form.Compatible value = is_short value
+fits form.Loader value = is_among loaders value
+fits form.Path value = is_path value
+fits form.Directory value = is_directory value
+fits form.StatusFile value = is_path value
+fits form.Flag value = is_some (flag_of value)
+fits form.Activation value = is_some (flag_of value)
+fits form.Attempts value = is_some (attempts_of value)
+fits form.SlotType value = is_among slot_types value
+fits form.BootName value = is_bootname value
+fits form.Free value = true
+fits form.LeftOut value = true
+
+-- a flag that is false
+abbrev pub is_off : Option Bool → Bool
+is_off (Some false) = true
+is_off (Some true) = false
+is_off None = false
+
+-- a value of this form, or each of them, is left out
+abbrev pub is_left_out : Form → Text → Bool
+is_left_out form.StatusFile value = bytes_eq value (codes "per-slot")
+is_left_out form.Activation value = is_off (flag_of value)
+is_left_out form.LeftOut value = true
+is_left_out _ value = false

@@ -1,0 +1,7 @@
+pub mod Forms
+pub mod Keys
+pub mod Lists
+pub mod Places
+pub mod Refusals
+pub mod Slots
+pub mod Values

@@ -1,0 +1,83 @@
+ghost use Rattle.std.specs.Prelude.{◌≡◌, ◌++◌, [], ◌∷◌, IfOk, OnOk, filter, map};
+ghost use Rattle.std.specs.List.{list_all};
+ghost use Rattle.system_conf.specs.Slots as spec;
+
+use keyfile::KeyFile;
+use std::alloc::Global;
+use updater_text::{NoMemory, read_number};
+
+/// The group of a slot, with the parts of its name.
+#[derive(Clone, Copy)]
+pub struct SlotGroup<'a> {
+    /// `slot.<class>.<index>`
+    pub group: &'a str,
+    /// `<class>.<index>`
+    pub name: &'a str,
+    pub class: &'a str,
+    pub index: u32,
+}
+
+/// The parts of a slot's group; None where the group has another name.
+pub fn slot_group(group: &str) -> Option<SlotGroup<'_>>
+    ensures { spec.IsSlotGroup group.entry.now result }
+{
+    let name = group.strip_prefix("slot.")?;
+    let (class, index) = name.split_once('.')?;
+    if !is_class(class.as_bytes()) {
+        return None;
+    }
+    let index = index_in(index)?;
+    Some(SlotGroup {
+        group,
+        name,
+        class,
+        index,
+    })
+}
+
+/// The groups of the slots, in file order.
+pub fn slot_groups(alloc: Global, file: &KeyFile) -> Result<Vec<SlotGroup<'_>>, NoMemory>
+    ensures { IfOk result (λ found. map spec.parts found.items ≡ spec.slot_parts file.entry.now) }
+{
+    let mut found = Vec::new(alloc);
+    for at in 0..file.groups() {
+        if let Some(group) = file.group(at) {
+            push_slot(&mut found, group)?;
+        }
+    }
+    Ok(found)
+}
+
+// Puts a group at the end where it is a slot's.
+fn push_slot<'a>(found: &mut Vec<SlotGroup<'a>>, group: &'a str) -> Result<(), NoMemory>
+    ensures { OnOk result (map spec.parts found.new.items ≡ map spec.parts found.old.items ++ map spec.parts_of (filter spec.is_slot_group (group.entry.now ∷ []))) }
+{
+    if let Some(slot) = slot_group(group) {
+        found.push(slot)?;
+    }
+    Ok(())
+}
+
+fn has_class_bytes(text: &[u8]) -> bool
+    ensures { result ≡ list_all spec.is_class_byte text.now }
+{
+    text.iter().all(|byte| byte.is_ascii_alphanumeric() || *byte == b'-' || *byte == b'_')
+}
+
+fn is_class(text: &[u8]) -> bool
+    ensures { result ≡ spec.is_class text.now }
+{
+    !text.is_empty() && text.len() <= 255 && has_class_bytes(text)
+}
+
+// The number that decimal digits without leading zeros spell.
+fn index_in(text: &str) -> Option<u32>
+    ensures { result ≡ spec.index_in text.now }
+{
+    let digits = text.as_bytes();
+    if digits.len() != 1 && digits.first() == Some(&b'0') {
+        return None;
+    }
+    let number = read_number(digits)?;
+    u32::try_from(number).ok()
+}
