@@ -1,5 +1,3 @@
 pub mod Ending
-pub mod Firsts
-pub mod Lookups
 pub mod Putting
 pub mod Stopping

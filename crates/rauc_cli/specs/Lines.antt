@@ -11,8 +11,8 @@ use Rattle.rauc_cli.specs.declared.command.Command.{Command}
 use Rattle.rauc_cli.specs.declared.command.Command.TheVariants as command
 use Rattle.rauc_cli.specs.declared.conf.BadConf.{BadConf}
 use Rattle.rauc_cli.specs.declared.conf.BadConf.TheVariants as bad
-use Rattle.rauc_cli.specs.declared.conf.ConfRefusal.{ConfRefusal}
-use Rattle.rauc_cli.specs.declared.conf.ConfRefusal.TheVariants as conf
+use Rattle.system_conf.specs.declared.conf_refusal.ConfRefusal.{ConfRefusal}
+use Rattle.system_conf.specs.declared.conf_refusal.ConfRefusal.TheVariants as conf
 use Rattle.rauc_cli.specs.declared.outcome.SlotRefusal.{SlotRefusal}
 use Rattle.rauc_cli.specs.declared.outcome.SlotRefusal.TheVariants as slot
 use Rattle.rauc_cli.specs.declared.outcome.Outcome.{Outcome}
@@ -60,17 +60,26 @@ key_cause (key.BadLine n) = codes "configuration: line " ++ (decimal n ++ codes 
 key_cause (key.KeyBeforeGroup n) = codes "configuration: line " ++ (decimal n ++ codes " stands before a group")
 key_cause (key.BadEscape n) = codes "configuration: line " ++ (decimal n ++ codes " has a bad escape")
 
--- a group, and a key of it, if one is named
-abbrev pub left_out_cause : List ℕ → List ℕ → List ℕ
-left_out_cause group key =
-    if length key == 0 then codes "configuration: [" ++ (group ++ codes "] left out")
-    else codes "configuration: [" ++ (group ++ (codes "] " ++ (key ++ codes " left out")))
+-- what is the matter with a group, where the key is empty, or with a key of it
+abbrev pub place_cause : List ℕ → List ℕ → List ℕ → List ℕ
+place_cause group key matter =
+    if length key == 0 then codes "configuration: [" ++ (group ++ (codes "] " ++ matter))
+    else codes "configuration: [" ++ (group ++ (codes "] " ++ (key ++ (codes " " ++ matter))))
 
--- what is wrong with the groups and keys of a configuration
+-- what is wrong with what a configuration says
 abbrev pub refusal_cause : ConfRefusal → List ℕ
-refusal_cause (conf.Missing group key) = codes "configuration: [" ++ (group ++ (codes "] " ++ (key ++ codes " missing")))
-refusal_cause (conf.LeftOut group key) = left_out_cause group key
-refusal_cause (conf.BadValue group key) = codes "configuration: [" ++ (group ++ (codes "] " ++ (key ++ codes " bad value")))
+refusal_cause (conf.Missing group key) = place_cause group key (codes "missing")
+refusal_cause (conf.UnknownKey group key) = place_cause group key (codes "unknown")
+refusal_cause (conf.LeftOut group key) = place_cause group key (codes "left out")
+refusal_cause (conf.BadValue group key) = place_cause group key (codes "bad value")
+refusal_cause (conf.BadSlotName group) = codes "configuration: bad slot name [" ++ (group ++ codes "]")
+refusal_cause (conf.TooMany slots) = codes "configuration: too many slots: " ++ decimal slots
+refusal_cause (conf.SameDevice first second) = codes "configuration: " ++ (first ++ (codes " and " ++ (second ++ codes " share a device")))
+refusal_cause (conf.SameBootName first second) = codes "configuration: " ++ (first ++ (codes " and " ++ (second ++ codes " share a bootname")))
+refusal_cause (conf.NoParent slot) = codes "configuration: " ++ (slot ++ codes " has no such parent")
+refusal_cause (conf.ParentCycle slot) = codes "configuration: parents of " ++ (slot ++ codes " do not end")
+refusal_cause (conf.ChildBootName slot) = codes "configuration: " ++ (slot ++ codes " has parent and bootname")
+refusal_cause (conf.DeviceIsFile slot) = codes "configuration: device of " ++ (slot ++ codes " is in use by rauc")
 
 abbrev pub conf_cause : BadConf → List ℕ
 conf_cause (bad.Key fault) = key_cause fault

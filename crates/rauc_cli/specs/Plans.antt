@@ -8,7 +8,7 @@ use Rattle.machine.specs.Frames.{OnlyIn}
 use Rattle.raw_writer.specs.Whole.{IsWritten}
 use Rattle.rauc_cli.specs.declared.command.Command.{Command}
 use Rattle.rauc_cli.specs.declared.command.Command.TheVariants.{WriteSlot}
-use Rattle.rauc_cli.specs.declared.conf.System.{System}
+use Rattle.system_conf.specs.Refusals.{Configuration}
 use Rattle.rauc_cli.specs.declared.conf.BadConf.{BadConf}
 use Rattle.rauc_cli.specs.declared.outcome.SlotRefusal.{SlotRefusal}
 use Rattle.rauc_cli.specs.declared.outcome.SlotWritten.{SlotWritten}
@@ -30,11 +30,11 @@ slot_plan command slot image device (Ok written) = Write slot image device writt
 slot_plan command slot image device (Err refusal) = Stay (failed command (end.Slot refusal))
 
 -- each command, with its configuration
-abbrev pub command_plan : World → System → Command → Plan
+abbrev pub command_plan : World → Configuration → Command → Plan
 command_plan w system (WriteSlot conf slot image) =
-    slot_plan (WriteSlot conf slot image) slot image (slot_device system slot) (slot_answer system slot image w)
+    slot_plan (WriteSlot conf slot image) slot image (slot_device system.slots slot) (slot_answer system.slots slot image w)
 
-abbrev pub conf_plan : World → Command → Result System BadConf → Plan
+abbrev pub conf_plan : World → Command → Result Configuration BadConf → Plan
 conf_plan w command (Ok system) = command_plan w system command
 conf_plan w command (Err refusal) = Stay (failed command (end.BadConfig refusal))
 

@@ -1,5 +1,5 @@
 -- What write-slot answers, and what it leaves.
-use Rattle.std.specs.Prelude.{◌≡◌, ℕ, Bool, IsTrue, List, [], take, Option, Some, None, Result, Ok, Err, IfOk, slice_get}
+use Rattle.std.specs.Prelude.{◌≡◌, ℕ, Bool, IsTrue, List, [], take, Option, Some, None, Result, Ok, Err, IfOk, slice_get, position, bytes_eq}
 use Rattle.std.specs.Option.{option_map_or}
 use Rattle.sha2.specs.Sha256.{sha256}
 use Rattle.updater_text.specs.declared.stops.Stop.{Stop}
@@ -16,12 +16,10 @@ use Rattle.raw_writer.specs.declared.whole.WholeStop.{WholeStop}
 use Rattle.raw_writer.specs.declared.whole.WholeStop.TheVariants as whole
 use Rattle.raw_writer.specs.Checking.{check_of}
 use Rattle.raw_writer.specs.Whole.{IsWritten}
-use Rattle.rauc_cli.specs.declared.conf.Slot.{Slot}
-use Rattle.rauc_cli.specs.declared.conf.System.{System}
+use Rattle.system_conf.specs.declared.slot.Slot.{Slot}
 use Rattle.rauc_cli.specs.declared.outcome.SlotRefusal.{SlotRefusal}
 use Rattle.rauc_cli.specs.declared.outcome.SlotRefusal.TheVariants.{NoSuchSlot, Image}
 use Rattle.rauc_cli.specs.declared.outcome.SlotWritten.{SlotWritten}
-use Rattle.rauc_cli.specs.Conf.{slot_named}
 
 -- so many bytes are read and written at a time
 abbrev pub piece : ℕ
@@ -43,13 +41,17 @@ abbrev pub answer_at : List Slot → List ℕ → List ℕ → World → Option 
 answer_at slots name image w (Some at) = put_answer at image (device_at slots at) w
 answer_at slots name image w None = Err (NoSuchSlot name)
 
+-- the place of the slot of this name
+abbrev pub slot_named : List Slot → List ℕ → Option ℕ
+slot_named slots name = position (λ s. bytes_eq s.name name) slots
+
 -- the answer of write-slot: what was written, or the first refusal
-abbrev pub slot_answer : System → List ℕ → List ℕ → World → Result SlotWritten SlotRefusal
-slot_answer system name image w = answer_at system.slots name image w (slot_named system name)
+abbrev pub slot_answer : List Slot → List ℕ → List ℕ → World → Result SlotWritten SlotRefusal
+slot_answer slots name image w = answer_at slots name image w (slot_named slots name)
 
 -- the device of the slot of this name
-abbrev pub slot_device : System → List ℕ → List ℕ
-slot_device system name = option_map_or (device_at system.slots) (slot_named system name) []
+abbrev pub slot_device : List Slot → List ℕ → List ℕ
+slot_device slots name = option_map_or (device_at slots) (slot_named slots name) []
 
 -- stops, as they are passed on
 abbrev pub image_stop : Stop PutRefusal → Stop SlotRefusal

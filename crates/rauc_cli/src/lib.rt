@@ -9,7 +9,7 @@ mod run;
 mod slots;
 
 pub use command::{Command, read_words};
-pub use conf::{BadConf, ConfRefusal, Slot, System, read_conf, slot_named};
+pub use conf::{BadConf, read_conf};
 pub use outcome::{Finish, Outcome, SlotRefusal, SlotWritten};
 pub use run::rauc;
 pub use slots::write_slot;

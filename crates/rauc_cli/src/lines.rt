@@ -1,12 +1,13 @@
-ghost use Rattle.std.specs.Prelude.{◌≡◌, IfOk, Some, string_bytes};
-ghost use Rattle.rauc_cli.specs.Lines.{cause_of, conf_cause, failed, failing, fault_word, image_path, key_cause, left_out_cause, put_cause, refusal_cause, slot_cause, written_head, written_line, written_report};
+ghost use Rattle.std.specs.Prelude.{◌≡◌, ◌++◌, IfOk, Some, codes, string_bytes};
+ghost use Rattle.rauc_cli.specs.Lines.{cause_of, conf_cause, failed, failing, fault_word, image_path, key_cause, place_cause, put_cause, refusal_cause, slot_cause, written_head, written_line, written_report};
 ghost use Rattle.rauc_cli.specs.Ends.{IsFailure, Speaks};
 
 use crate::outcome::Report;
-use crate::{BadConf, Command, ConfRefusal, Outcome, SlotRefusal};
+use crate::{BadConf, Command, Outcome, SlotRefusal};
 use keyfile::KeyFault;
 use raw_writer::PutRefusal;
 use std::alloc::{AllocError, Global};
+use system_conf::ConfRefusal;
 use updater_text::{Digest, Fault, NoMemory, Text};
 
 // The line of a slot that was written, up to the digest.
@@ -87,34 +88,72 @@ fn key_cause(alloc: Global, fault: &KeyFault) -> Result<String, AllocError>
     }
 }
 
-// What a configuration has that is not read: a group, where the key is empty, or a key.
-fn left_out_cause(alloc: Global, group: &str, key: &str) -> Result<String, AllocError>
-    ensures { IfOk result (λ t. string_bytes t ≡ left_out_cause group.now key.now) }
+// What is the matter with a group, where the key is empty, or with a key of it.
+fn place_cause(alloc: Global, group: &Text, key: &Text, matter: &str) -> Result<String, AllocError>
+    ensures { IfOk result (λ t. string_bytes t ≡ place_cause group.now key.now matter.now) }
 {
+    let group = group.as_str();
+    let key = key.as_str();
     if key.is_empty() {
-        format!(in alloc; "configuration: [{group}] left out")
+        format!(in alloc; "configuration: [{group}] {matter}")
     } else {
-        format!(in alloc; "configuration: [{group}] {key} left out")
+        format!(in alloc; "configuration: [{group}] {key} {matter}")
     }
 }
 
-// What is wrong with the groups and keys of a configuration.
+// What is wrong with one slot, or with two.
+fn slots_cause(alloc: Global, before: &str, slot: &Text, after: &str) -> Result<String, AllocError>
+    ensures { IfOk result (λ t. string_bytes t ≡ before.now ++ (slot.now ++ after.now)) }
+{
+    let slot = slot.as_str();
+    format!(in alloc; "{before}{slot}{after}")
+}
+
+fn pair_cause(alloc: Global, first: &Text, second: &Text, after: &str) -> Result<String, AllocError>
+    ensures { IfOk result (λ t. string_bytes t ≡ codes "configuration: " ++ (first.now ++ (codes " and " ++ (second.now ++ after.now)))) }
+{
+    let first = first.as_str();
+    let second = second.as_str();
+    format!(in alloc; "configuration: {first} and {second}{after}")
+}
+
+// What is wrong with what a configuration says.
 fn refusal_cause(alloc: Global, refusal: &ConfRefusal) -> Result<String, AllocError>
     ensures { IfOk result (λ t. string_bytes t ≡ refusal_cause refusal.now) }
 {
     match refusal {
-        ConfRefusal::Missing { group, key } => {
-            let group = group.as_str();
-            let key = key.as_str();
-            format!(in alloc; "configuration: [{group}] {key} missing")
+        ConfRefusal::Missing { group, key } => place_cause(alloc, group, key, "missing"),
+        ConfRefusal::UnknownKey { group, key } => place_cause(alloc, group, key, "unknown"),
+        ConfRefusal::LeftOut { group, key } => place_cause(alloc, group, key, "left out"),
+        ConfRefusal::BadValue { group, key } => place_cause(alloc, group, key, "bad value"),
+        ConfRefusal::BadSlotName { group } => {
+            slots_cause(alloc, "configuration: bad slot name [", group, "]")
         }
-        ConfRefusal::LeftOut { group, key } => {
-            left_out_cause(alloc, group.as_str(), key.as_str())
+        ConfRefusal::TooMany { slots } => {
+            format!(in alloc; "configuration: too many slots: {slots}")
         }
-        ConfRefusal::BadValue { group, key } => {
-            let group = group.as_str();
-            let key = key.as_str();
-            format!(in alloc; "configuration: [{group}] {key} bad value")
+        ConfRefusal::SameDevice { first, second } => {
+            pair_cause(alloc, first, second, " share a device")
+        }
+        ConfRefusal::SameBootName { first, second } => {
+            pair_cause(alloc, first, second, " share a bootname")
+        }
+        ConfRefusal::NoParent { slot } => {
+            slots_cause(alloc, "configuration: ", slot, " has no such parent")
+        }
+        ConfRefusal::ParentCycle { slot } => {
+            slots_cause(alloc, "configuration: parents of ", slot, " do not end")
+        }
+        ConfRefusal::ChildBootName { slot } => {
+            slots_cause(alloc, "configuration: ", slot, " has parent and bootname")
+        }
+        ConfRefusal::DeviceIsFile { slot } => {
+            slots_cause(
+                alloc,
+                "configuration: device of ",
+                slot,
+                " is in use by rauc",
+            )
         }
     }
 }

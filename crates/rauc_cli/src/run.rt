@@ -1,5 +1,6 @@
 ghost use Rattle.std.specs.Prelude.{◌≤◌, ℕ, List, IfOk, Some};
 ghost use Rattle.machine.specs.Past.{now};
+ghost use Rattle.system_conf.specs.Refusals.{shown};
 ghost use Rattle.rauc_cli.specs.Words.{command_of};
 ghost use Rattle.rauc_cli.specs.Slots.{slot_answer, slot_device};
 ghost use Rattle.rauc_cli.specs.Plans.{command_plan, file_plan, plan_of, slot_plan, words_plan};
@@ -7,12 +8,11 @@ ghost use Rattle.rauc_cli.specs.Ends.{Caused, Complete, Ended, Finished, Names, 
 
 use crate::lines::{failed, failing, written_report};
 use crate::outcome::{Report, SlotWritten};
-use crate::{
-    BadConf, Command, Finish, Outcome, SlotRefusal, System, read_conf, read_words, write_slot,
-};
+use crate::{BadConf, Command, Finish, Outcome, SlotRefusal, read_conf, read_words, write_slot};
 use keyfile::KeyFault;
 use machine::{Machine, ReadStop};
 use std::alloc::Global;
+use system_conf::System;
 use updater_text::{Fault, Lack, NoMemory, Sink, Stop, Text, tell};
 
 /// The longest configuration, in bytes.
@@ -45,7 +45,7 @@ fn run_write_slot<M: Machine>(
     image: &str,
 ) -> Result<Report, NoMemory>
     requires { Names command.now slot.now image.now }
-    ensures ended { Ended M.tells (slot_plan command.now slot.now image.now (slot_device system.now slot.now) (slot_answer system.now slot.now image.now (now (M.past m.old)))) (M.past m.old) (M.past m.new) result }
+    ensures ended { Ended M.tells (slot_plan command.now slot.now image.now (slot_device system.now.slots slot.now) (slot_answer system.now.slots slot.now image.now (now (M.past m.old)))) (M.past m.old) (M.past m.new) result }
     ensures spoken { IfOk result (Speaks (Some command.now)) }
     ensures cause { Caused (Some command.now) (M.faults m.old) (M.faults m.new) (outcome_in result) }
     ensures wants { M.wants m.old ≤ M.wants m.new }
@@ -61,7 +61,7 @@ fn run_command<M: Machine>(
     command: &Command,
     system: &System,
 ) -> Result<Report, NoMemory>
-    ensures ended { Ended M.tells (command_plan (now (M.past m.old)) system.now command.now) (M.past m.old) (M.past m.new) result }
+    ensures ended { Ended M.tells (command_plan (now (M.past m.old)) (shown system.now) command.now) (M.past m.old) (M.past m.new) result }
     ensures spoken { IfOk result (Speaks (Some command.now)) }
     ensures cause { Caused (Some command.now) (M.faults m.old) (M.faults m.new) (outcome_in result) }
     ensures wants { M.wants m.old ≤ M.wants m.new }

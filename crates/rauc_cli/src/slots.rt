@@ -3,12 +3,12 @@ ghost use Rattle.machine.specs.Past.{Always, Fails, now};
 ghost use Rattle.machine.specs.Stops.{StopCounted, stop_fault};
 ghost use Rattle.rauc_cli.specs.Slots.{Puts, device_at, image_stop, put_answer, slot_answer, slot_device, whole_answer};
 
-use crate::conf::slot_named;
+use crate::SlotRefusal;
 use crate::outcome::SlotWritten;
-use crate::{Slot, SlotRefusal, System};
 use machine::Machine;
 use raw_writer::{PutRefusal, WholeStop, check_image, write_whole};
 use std::alloc::Global;
+use system_conf::{Slot, System};
 use updater_text::{Digest, Stop, Text};
 
 /// How many bytes are read and written at a time.
@@ -90,10 +90,10 @@ pub fn write_slot<M: Machine>(
     slot: &str,
     image: &str,
 ) -> Result<SlotWritten, Stop<SlotRefusal>>
-    ensures put { Puts M.tells image.now (slot_device system.now slot.now) (slot_answer system.now slot.now image.now (now (M.past m.old))) (M.past m.old) (M.past m.new) result }
+    ensures put { Puts M.tells image.now (slot_device system.now.slots slot.now) (slot_answer system.now.slots slot.now image.now (now (M.past m.old))) (M.past m.old) (M.past m.new) result }
     ensures counts { StopCounted (M.faults m.old) (M.faults m.new) (M.wants m.old) (M.wants m.new) result }
 {
-    match slot_named(system, slot) {
+    match system.slot_named(slot) {
         Some(at) => write_on(alloc, m, at, device_at(system.slots.as_slice(), at), image),
         None => match Text::new(alloc, slot) {
             Ok(text) => Err(Stop::Refused(SlotRefusal::NoSuchSlot { text })),

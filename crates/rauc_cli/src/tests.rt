@@ -4,9 +4,11 @@ use std::alloc::Global;
 use std::test::Fail;
 use updater_text::{Items, MemorySink, NoMemory, Text};
 
-const CONF: &str = "[system]\ncompatible=Test\nbootloader=grub\ngrubenv=/env\nstatusfile=/status\n\n[slot.rootfs.0]\ndevice=/dev/a\nbootname=A\n\n[slot.rootfs.1]\ndevice=/dev/b\nbootname=B\n";
+const CONF: &str =
+    "[system]\ncompatible=Test\nbootloader=grub\ngrubenv=/env\nstatusfile=/status\n\n[slot.rootfs.0]\ndevice=/dev/a\nbootname=A\n\n[slot.rootfs.1]\ndevice=/dev/b\nbootname=B\n";
 
-const WRITTEN: &str = "slot rootfs.1 written: 3 bytes, sha256 ba7816bf8f01cfea414140de5dae2223b00361a396177a9cb410ff61f20015ad\n";
+const WRITTEN: &str =
+    "slot rootfs.1 written: 3 bytes, sha256 ba7816bf8f01cfea414140de5dae2223b00361a396177a9cb410ff61f20015ad\n";
 
 const WORDS: [&str; 5] = ["write-slot", "-c", "/c", "rootfs.1", "/r.img"];
 
@@ -102,7 +104,8 @@ fn writes_an_image(rt: HostRuntime) -> Result<(), Fail> {
 fn writes_images_that_fit(rt: HostRuntime) -> Result<(), Fail> {
     let alloc = rt.alloc();
     let ran = write(alloc, b"", &[])?;
-    let line = "slot rootfs.1 written: 0 bytes, sha256 e3b0c44298fc1c149afbf4c8996fb92427ae41e4649b934ca495991b7852b855\n";
+    let line =
+        "slot rootfs.1 written: 0 bytes, sha256 e3b0c44298fc1c149afbf4c8996fb92427ae41e4649b934ca495991b7852b855\n";
     assert!(rt; says(&ran, 0, line, ""));
     assert_eq!(rt; ran.machine.world().writes.len(), 0);
     let ran = write(alloc, b"0123456789abcdef", &[])?;
@@ -138,7 +141,12 @@ fn writes_in_pieces(rt: HostRuntime) -> Result<(), Fail> {
 fn refuses_by_name(rt: HostRuntime) -> Result<(), Fail> {
     let rows = [
         ("rootfs.7", "/c", "/r.img", "rauc: no such slot: rootfs.7\n"),
-        ("rootfs.1", "/none", "/r.img", "rauc: no configuration /none\n"),
+        (
+            "rootfs.1",
+            "/none",
+            "/r.img",
+            "rauc: no configuration /none\n",
+        ),
         ("rootfs.1", "/c", "/none", "rauc: no image /none\n"),
     ];
     for (slot, conf, image, line) in rows {
@@ -156,7 +164,15 @@ fn refuses_other_words(rt: HostRuntime) -> Result<(), Fail> {
     let alloc = rt.alloc();
     let ran = run(alloc, &[], CONF, b"abc", 16, &[], &[])?;
     assert!(rt; says(&ran, 1, "", line));
-    let ran = run(alloc, &["write-slot", "/c", "rootfs.1", "/r.img"], CONF, b"abc", 16, &[], &[])?;
+    let ran = run(
+        alloc,
+        &["write-slot", "/c", "rootfs.1", "/r.img"],
+        CONF,
+        b"abc",
+        16,
+        &[],
+        &[],
+    )?;
     assert!(rt; says(&ran, 1, "", line));
     let words = ["install", "-c", "/c", "rootfs.1", "/r.img"];
     let ran = run(alloc, &words, CONF, b"abc", 16, &[], &[])?;
@@ -168,14 +184,8 @@ fn refuses_other_words(rt: HostRuntime) -> Result<(), Fail> {
 }
 
 #[test]
-fn refuses_configurations(rt: HostRuntime) -> Result<(), Fail> {
+fn refuses_key_files(rt: HostRuntime) -> Result<(), Fail> {
     let rows = [
-        ("[slot.rootfs.1]\ndevice=/dev/b\ntype=raw\n", "[slot.rootfs.1] type left out"),
-        ("[handlers]\n", "[handlers] left out"),
-        ("[slot.rootfs.01]\ndevice=/dev/b\n", "[slot.rootfs.01] left out"),
-        ("[slot.rootfs.1]\nbootname=B\n", "[slot.rootfs.1] device missing"),
-        ("[slot.rootfs.1]\ndevice=dev/b\n", "[slot.rootfs.1] device bad value"),
-        ("[slot.rootfs.1]\ndevice=/dev//b\n", "[slot.rootfs.1] device bad value"),
         ("[system]\nx\n", "line 2 is bad"),
         ("device=/dev/b\n", "line 1 stands before a group"),
         ("[system]\ncompatible=\\x\n", "line 2 has a bad escape"),
@@ -189,9 +199,78 @@ fn refuses_configurations(rt: HostRuntime) -> Result<(), Fail> {
     Ok(())
 }
 
+// Each stands below a `[system]` with a compatible and the boot loader grub.
+const REFUSED: [(&str, &str); 13] = [
+    (
+        "[slot.rootfs.1]\nbootname=B\n",
+        "[slot.rootfs.1] device missing",
+    ),
+    ("[foo]\n", "[foo] unknown"),
+    (
+        "[slot.rootfs.1]\ndevice=/dev/b\nfoo=1\n",
+        "[slot.rootfs.1] foo unknown",
+    ),
+    ("[polling]\n", "[polling] left out"),
+    (
+        "[slot.rootfs.1]\ndevice=dev/b\n",
+        "[slot.rootfs.1] device bad value",
+    ),
+    (
+        "[slot.rootfs.01]\ndevice=/dev/b\n",
+        "bad slot name [slot.rootfs.01]",
+    ),
+    (
+        "[slot.a.0]\ndevice=/dev/b\n[slot.a.1]\ndevice=/dev/b\n",
+        "a.0 and a.1 share a device",
+    ),
+    (
+        "[slot.a.0]\ndevice=/a\nbootname=A\n[slot.a.1]\ndevice=/b\nbootname=A\n",
+        "a.0 and a.1 share a bootname",
+    ),
+    (
+        "[slot.a.0]\ndevice=/a\nparent=b.0\n",
+        "a.0 has no such parent",
+    ),
+    (
+        "[slot.a.0]\ndevice=/a\nparent=a.1\n[slot.a.1]\ndevice=/b\nparent=a.0\n",
+        "parents of a.0 do not end",
+    ),
+    (
+        "[slot.a.0]\ndevice=/a\nparent=a.0\n",
+        "parents of a.0 do not end",
+    ),
+    (
+        "[slot.a.0]\ndevice=/a\nbootname=A\nparent=a.1\n[slot.a.1]\ndevice=/b\n",
+        "a.0 has parent and bootname",
+    ),
+    (
+        "[slot.a.0]\ndevice=/boot/grub/grubenv\n",
+        "device of a.0 is in use by rauc",
+    ),
+];
+
+#[test]
+fn refuses_configurations(rt: HostRuntime) -> Result<(), Fail> {
+    let alloc = rt.alloc();
+    for (rest, cause) in REFUSED {
+        let conf = format!(in alloc; "[system]\ncompatible=Test\nbootloader=grub\n{rest}")?;
+        let ran = run(alloc, &WORDS, conf.as_str(), b"abc", 16, &[], &[])?;
+        let line = format!(in alloc; "rauc: configuration: {cause}\n")?;
+        assert!(rt; says(&ran, 1, "", line.as_str()));
+    }
+    Ok(())
+}
+
 #[test]
 fn names_a_call_that_failed(rt: HostRuntime) -> Result<(), Fail> {
-    let rows = [(1, "read"), (2, "size"), (3, "size"), (4, "read"), (5, "write"), (6, "sync")];
+    let rows = [
+        (1, "read"),
+        (2, "size"),
+        (3, "size"),
+        (4, "read"),
+        (5, "write"),
+        (6, "sync"),
+    ];
     let alloc = rt.alloc();
     for (number, word) in rows {
         let ran = write(alloc, b"abc", &[number])?;

@@ -1,4 +1,5 @@
 mod Cases
+mod Differ
 mod Entries
 mod FirstOf
 mod Lists
@@ -7,3 +8,4 @@ mod Names
 mod Numbered
 mod Slashes
 mod SlotGroups
+mod Soundness

@@ -2,6 +2,8 @@ pub mod Forms
 pub mod Keys
 pub mod Lists
 pub mod Places
+pub mod Reads
 pub mod Refusals
 pub mod Slots
+pub mod Sound
 pub mod Values

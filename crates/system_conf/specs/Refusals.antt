@@ -3,8 +3,6 @@ use Rattle.std.specs.Prelude.{◌≡◌, ℕ, ◌==◌, Bool, true, false, ◌&&
 use Rattle.std.specs.Option.{option_map_or}
 use Rattle.std.specs.List.{enumerate_from, list_any}
 use Rattle.std.specs.Str.{bytes_eq}
-use Rattle.updater_text.specs.declared.stops.Lack.{Lack}
-use Rattle.updater_text.specs.declared.stops.Lack.TheVariants as lack
 use Rattle.boot_model.specs.declared.boot_kind.BootKind.{BootKind}
 use Rattle.keyfile.specs.Groups.{Text, Entry, Group, get_in}
 use Rattle.system_conf.specs.Lists.{first_of, or_else}
@@ -22,7 +20,6 @@ use Rattle.system_conf.specs.declared.shared.Shared.{Shared}
 use Rattle.system_conf.specs.declared.shared.Shared.TheVariants as shared
 use Rattle.system_conf.specs.declared.slot.Slot.{Slot}
 use Rattle.system_conf.specs.declared.system.Helpers.{Helpers}
-use Rattle.system_conf.specs.declared.system.System.{System}
 
 -- ---- mandatory keys
 
@@ -207,6 +204,9 @@ is_kept_below kept path = is_below kept.data_directory path || lies_under kept.m
 abbrev pub is_kept : Kept → Text → Bool
 is_kept kept path = is_kept_file kept path || is_kept_below kept path
 
+abbrev pub boot_kept : BootKind → Text → Option Text → Option Text → Kept
+boot_kept boot mount_prefix status_file data_directory = record { status_file = status_file; grub_file = boot_file boot; data_directory = data_directory; mount_prefix = mount_prefix }
+
 abbrev pub kept_of : List Group → Kept
 kept_of groups = record { status_file = status_file_of groups; grub_file = grub_file_of groups; data_directory = data_directory_of groups; mount_prefix = mount_prefix_of groups }
 
@@ -230,9 +230,6 @@ pub record Configuration : Type 0 where
   pub post_install : Option Text
   pub helpers : Helpers
   pub slots : List Slot
-
-abbrev pub shown : System → Configuration
-shown s = record { compatible = s.compatible; boot = s.boot; mount_prefix = s.mount_prefix; status_file = s.status_file; data_directory = s.data_directory; pre_install = s.pre_install; post_install = s.post_install; helpers = s.helpers; slots = s.slots }
 
 -- what the groups say, with the defaults
 unfoldable pub configuration : List Group → Configuration
@@ -282,9 +279,3 @@ unless_refused (Some why) conf = Err why
 -- the first refusal that holds, or else the configuration
 abbrev pub system_of : List Group → Result Configuration ConfRefusal
 system_of groups = unless_refused (refusal_of groups) (configuration groups)
-
--- the call answered by what the configuration means
-abbrev pub Reads : Result Configuration ConfRefusal → Result System (Lack ConfRefusal) → Type 0
-Reads meaning (Ok system) = meaning ≡ Ok (shown system)
-Reads meaning (Err (lack.Refused why)) = meaning ≡ Err why
-Reads meaning (Err lack.NoMemory) = Unit {0}

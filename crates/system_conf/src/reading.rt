@@ -1,5 +1,8 @@
-ghost use Rattle.std.specs.Prelude.{◌≡◌, IfOk, map};
+ghost use Rattle.std.specs.Prelude.{◌≡◌, None, IfOk, map};
+ghost use Rattle.std.specs.List.{IsDistinct};
+ghost use Rattle.std.specs.Str.{bytes_eq};
 ghost use Rattle.system_conf.specs.Slots.{parts, slot_parts, slots_of};
+ghost use Rattle.system_conf.specs.Reads.{Reads, shown};
 ghost use Rattle.system_conf.specs.Refusals as spec;
 
 use crate::kept::{device_is_file, too_many};
@@ -21,7 +24,7 @@ use updater_text::{Items, Lack, NoMemory, Text};
 /// Reads a configuration, as RAUC's chapter Reference describes `system.conf`, or refuses it with the
 /// first refusal that holds, in the order of `ConfRefusal`.
 pub fn read_system(alloc: Global, file: &KeyFile) -> Result<System, Lack<ConfRefusal>>
-    ensures { spec.Reads (spec.system_of file.now) result }
+    ensures { Reads (spec.system_of file.now) result }
 {
     let groups = slot_groups(alloc, file)?;
     if let Some(why) = group_refusal(alloc, file, groups.as_slice())? {
@@ -98,8 +101,10 @@ fn slot_refusal(
 // The configuration, with its defaults.
 #[tactic(auto, unfolding(crate::specs::Refusals::configuration))]
 fn configured(alloc: Global, file: &KeyFile, slots: Items<Slot>) -> Result<System, NoMemory>
-    requires { slots ≡ slots_of file.now }
-    ensures { IfOk result (λ system. spec.shown system ≡ spec.configuration file.now) }
+    requires differ { IsDistinct bytes_eq (map (λ g. g.0) file.now) }
+    requires read { slots ≡ slots_of file.now }
+    requires unrefused { None ≡ spec.first_row (spec.slot_rows file.now slots) }
+    ensures { IfOk result (λ system. shown system ≡ spec.configuration file.now) }
 {
     Ok(System {
         compatible: Text::new(alloc, file.get("system", "compatible").unwrap_or(""))?,

@@ -1,5 +1,6 @@
 ghost use Rattle.std.specs.Prelude.{◌≡◌, ◌++◌, [], ◌∷◌, IfOk, OnOk, filter, map};
-ghost use Rattle.std.specs.List.{list_all};
+ghost use Rattle.std.specs.List.{IsDistinct, list_all};
+ghost use Rattle.std.specs.Str.{bytes_eq};
 ghost use Rattle.system_conf.specs.Slots as spec;
 
 use keyfile::KeyFile;
@@ -35,9 +36,10 @@ pub fn slot_group(group: &str) -> Option<SlotGroup<'_>>
     })
 }
 
-/// The groups of the slots, in file order.
+/// The groups of the slots, in file order. The names of a file's groups differ.
 pub fn slot_groups(alloc: Global, file: &KeyFile) -> Result<Vec<SlotGroup<'_>>, NoMemory>
-    ensures { IfOk result (λ found. map spec.parts found.items ≡ spec.slot_parts file.entry.now) }
+    ensures differ { IsDistinct bytes_eq (map (λ g. g.0) file.entry.now) }
+    ensures read { IfOk result (λ found. map spec.parts found.items ≡ spec.slot_parts file.entry.now) }
 {
     let mut found = Vec::new(alloc);
     for at in 0..file.groups() {

@@ -1,6 +1,8 @@
-ghost use Rattle.std.specs.Prelude.{◌≡◌, ◌++◌, [], IfOk, OnOk, filter_map, position};
-ghost use Rattle.std.specs.List.{cons_option};
+ghost use Rattle.std.specs.Prelude.{◌≡◌, ◌++◌, [], IfOk, IsTrue, OnOk, filter_map, map, position};
+ghost use Rattle.std.proofs.Props.{props};
+ghost use Rattle.std.specs.List.{IsDistinct, cons_option};
 ghost use Rattle.std.specs.Str.{bytes_eq};
+ghost use Rattle.system_conf.specs.Sound.{are_unrefused, parents_stand};
 
 use crate::Slot;
 use boot_model::BootKind;
@@ -33,6 +35,11 @@ pub struct System {
     pub helpers: Helpers,
     /// The slots, in file order.
     pub slots: Items<Slot>,
+
+    // What holds of every system.
+    pub ghost names_differ: { IsDistinct bytes_eq (map (λ s. s.name) slots) } by { Prim.hlevel props },
+    pub ghost parents_stand: { IsTrue (parents_stand slots) },
+    pub ghost unrefused: { IsTrue (are_unrefused boot mount_prefix status_file data_directory slots) },
 }
 
 impl System {
