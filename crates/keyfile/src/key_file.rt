@@ -2,7 +2,7 @@ ghost use Rattle.std.specs.Prelude.{◌≡◌, ◌≤◌, [], IfOk, IsTrue, OnEr
 ghost use Rattle.std.specs.List.{IsDistinct};
 ghost use Rattle.std.specs.Str.{bytes_eq};
 ghost use Rattle.keyfile.specs.Canonical.{canonical};
-ghost use Rattle.keyfile.specs.Groups.{entry_at, get_in, is_key, is_name, is_value, key_count, may_be_put, opened, place_of, put_at, put_in};
+ghost use Rattle.keyfile.specs.Groups.{entry_at, get_in, is_key, is_key_file, is_name, is_value, key_count, may_be_put, opened, place_of, put_at, put_in};
 ghost use Rattle.keyfile.specs.Reading.{read_of};
 
 use crate::writing::write_groups;
@@ -131,10 +131,12 @@ impl KeyFile {
         Ok(text)
     }
 
-    /// The text that `write` gives is read as this key file again, where `read` takes one so long. The
-    /// call does nothing: it is there for this promise.
+    /// Names of groups, keys and values have their forms, and no name and no key of a group comes
+    /// twice; so the text that `write` gives is read as this key file again, where `read` takes one so
+    /// long. The call does nothing: it is there for this promise.
     pub fn reads_back(&self)
-        ensures { length (canonical self.now) ≤ 1048576 → read_of (canonical self.now) ≡ Ok self.now }
+        ensures form { IsTrue (is_key_file self.now) }
+        ensures law { length (canonical self.now) ≤ 1048576 → read_of (canonical self.now) ≡ Ok self.now }
     {
         let _ = &self.groups;
     }
