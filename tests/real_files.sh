@@ -1,0 +1,127 @@
+#!/usr/bin/env bash
+# Runs the built program on real files: each image that fits, those that do not, and what is missing
+# or in the way. Needs bash and coreutils. Its last line counts the cases.
+set -u
+cd "$(dirname "$0")/.." || exit 2
+if ! command -v rt > /dev/null; then
+  echo "skipped: real_files, since the toolchain's command rt is missing"
+  exit 0
+fi
+make -s build/rauc || exit 1
+program=$PWD/build/rauc
+scratch=$(mktemp -d build/real_files.XXXXXX)
+trap 'rm -rf "$OLDPWD/$scratch"' EXIT
+cd "$scratch" || exit 2
+passed=0
+failed=0
+
+# expect STATUS LINE WORDS..: the run ends with the status, and LINE is all that it prints.
+expect() {
+  local status=$1 line=$2 said code
+  shift 2
+  said=$("$program" "$@" 2>&1)
+  code=$?
+  if [ "$code" = "$status" ] && [ "$said" = "$line" ]; then
+    passed=$((passed + 1))
+  else
+    failed=$((failed + 1))
+    printf 'failed: rauc %s\n  wanted %s: %s\n  got    %s: %s\n' "$*" "$status" "$line" "$code" "$said"
+  fi
+}
+
+# same FILE FILE [COUNT]: the first COUNT bytes are the same.
+same() {
+  if cmp -s ${3:+-n "$3"} "$1" "$2"; then
+    passed=$((passed + 1))
+  else
+    failed=$((failed + 1))
+    echo "failed: $1 and $2 differ"
+  fi
+}
+
+digest() { sha256sum < "$1" | cut -c1-64; }
+
+# slots SIZE: two devices of so many bytes, and a configuration over them.
+slots() {
+  head -c "$1" /dev/zero | tr '\0' 'a' > a
+  head -c "$1" /dev/zero | tr '\0' 'b' > b
+  cp b before
+  cat > c << CONF
+[system]
+compatible=Test
+bootloader=grub
+
+[slot.rootfs.0]
+device=$PWD/a
+bootname=A
+
+[slot.rootfs.1]
+device=$PWD/b
+bootname=B
+CONF
+}
+
+slots 4096
+: > empty.img
+expect 0 "slot rootfs.1 written: 0 bytes, sha256 $(digest empty.img)" write-slot -c c rootfs.1 empty.img
+same b before
+head -c 4096 /dev/urandom > full.img
+expect 0 "slot rootfs.1 written: 4096 bytes, sha256 $(digest full.img)" write-slot -c c rootfs.1 full.img
+same full.img b
+cp b before
+head -c 4097 /dev/urandom > long.img
+expect 1 "rauc: image long.img: 4097 bytes do not fit device of 4096" write-slot -c c rootfs.1 long.img
+same b before
+head -c 100 /dev/urandom > "a name with blanks.img"
+expect 0 "slot rootfs.1 written: 100 bytes, sha256 $(digest 'a name with blanks.img')" write-slot -c c rootfs.1 "a name with blanks.img"
+same "a name with blanks.img" b 100
+cp b before
+
+expect 1 "rauc: no image nothing.img" write-slot -c c rootfs.1 nothing.img
+expect 1 "rauc: no configuration nothing" write-slot -c nothing rootfs.1 full.img
+expect 1 "rauc: no such slot: rootfs.2" write-slot -c c rootfs.2 full.img
+expect 2 "rauc: outside fault: size" write-slot -c c rootfs.1 .
+expect 2 "rauc: outside fault: read" write-slot -c . rootfs.1 full.img
+expect 1 "rauc: bad usage, see rauc --help"
+expect 1 "rauc: bad usage, see rauc --help" write-slot rootfs.1 full.img
+expect 1 "rauc: bad usage, see rauc --help" $'\xff'
+same b before
+mv b gone
+expect 1 "rauc: no device $PWD/b" write-slot -c c rootfs.1 full.img
+mv gone b
+if [ "$(id -u)" = 0 ]; then
+  echo "skipped: unreadable files, since root reads all"
+else
+  chmod 000 full.img
+  expect 2 "rauc: outside fault: read" write-slot -c c rootfs.1 full.img
+fi
+
+slots 268435456
+head -c 268435456 /dev/urandom > large.img
+expect 0 "slot rootfs.1 written: 268435456 bytes, sha256 $(digest large.img)" write-slot -c c rootfs.1 large.img
+same large.img b
+if [ -x /usr/bin/time ]; then
+  memory=$(/usr/bin/time -f %M "$program" write-slot -c c rootfs.1 large.img 2>&1 > /dev/null)
+  if [ "$memory" -lt 8192 ]; then
+    passed=$((passed + 1))
+  else
+    failed=$((failed + 1))
+    echo "failed: $memory KiB resident for an image of 256 MiB"
+  fi
+else
+  echo "skipped: resident memory, since /usr/bin/time is missing"
+fi
+if command -v strace > /dev/null; then
+  calls=$(strace -f -c -e trace=read,pread64,write,pwrite64,fsync,fdatasync,lseek "$program" write-slot -c c rootfs.1 large.img 2>&1 > /dev/null | awk '/total$/ { print $(NF - 1) }')
+  if [ "${calls:-99999}" -le $((3 * 4096)) ]; then
+    passed=$((passed + 1))
+  else
+    failed=$((failed + 1))
+    echo "failed: $calls system calls for 4096 pieces"
+  fi
+else
+  echo "skipped: system calls, since strace is missing"
+fi
+
+printf '%s passed, %s failed\n' "$passed" "$failed"
+[ "$failed" = 0 ]
