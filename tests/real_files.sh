@@ -15,11 +15,14 @@ cd "$scratch" || exit 2
 passed=0
 failed=0
 
+# The words that run the program as another user, if any.
+as=()
+
 # expect STATUS LINE WORDS..: the run ends with the status, and LINE is all that it prints.
 expect() {
   local status=$1 line=$2 said code
   shift 2
-  said=$("$program" "$@" 2>&1)
+  said=$("${as[@]}" "$program" "$@" 2>&1)
   code=$?
   if [ "$code" = "$status" ] && [ "$said" = "$line" ]; then
     passed=$((passed + 1))
@@ -89,12 +92,17 @@ same b before
 mv b gone
 expect 1 "rauc: no device $PWD/b" write-slot -c c rootfs.1 full.img
 mv gone b
-if [ "$(id -u)" = 0 ]; then
-  echo "skipped: unreadable files, since root reads all"
-else
-  chmod 000 full.img
+# Root reads every file, so the program then runs as another user.
+[ "$(id -u)" = 0 ] && as=(setpriv --reuid=65534 --regid=65534 --clear-groups)
+chmod 755 .
+chmod 000 full.img
+if "${as[@]}" test -x "$program" -a -r c 2> /dev/null; then
   expect 2 "rauc: outside fault: read" write-slot -c c rootfs.1 full.img
+else
+  echo "skipped: an unreadable file, since no other user can run the program here"
 fi
+as=()
+same b before
 
 slots 268435456
 head -c 268435456 /dev/urandom > large.img
