@@ -4,7 +4,7 @@
 program := build/rauc
 sources := crates.txt $(shell find crates -name '*.rt' -o -name '*.antt' | grep -v /out/)
 
-.PHONY: all demo check clean
+.PHONY: all demo bench check clean
 
 all: $(program)
 
@@ -19,6 +19,9 @@ $(program): $(sources)
 
 demo: $(program)
 	@bash demo/write_slot.sh $(program)
+
+bench: $(program)
+	@bash bench/configuration.sh $(program)
 
 check:
 	rt ci

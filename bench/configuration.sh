@@ -1,0 +1,47 @@
+#!/usr/bin/env bash
+# How long the built program takes to read a configuration: files of comments, of many groups with
+# many keys, and of 64 slots, each at three lengths. Prints the best of nine runs in ms, and MB/s.
+# The times hold the start of the program too. Needs bash and coreutils.
+set -eu
+program=$(realpath "${1:-build/rauc}")
+scratch=$(mktemp -d)
+trap 'rm -rf "$scratch"' EXIT
+cd "$scratch"
+
+head_of() { printf '[system]\ncompatible=Test\nbootloader=noop\n\n'; }
+
+comments() { yes '# A comment of the length that comments in such files often have.'; }
+
+groups() {
+  awk 'BEGIN { for (group = 0; ; group++) { print "[log." group "]"; for (key = 0; key < 20; key++) print "key-" key "=the value\\sof the key " key } }'
+}
+
+slots() {
+  for slot in $(seq 0 63); do
+    printf '[slot.rootfs.%s]\ndevice=/dev/disk/by-partlabel/rootfs-%s\ntype=ext4\nbootname=system-%s\n\n' "$slot" "$slot" "$slot"
+  done
+  comments
+}
+
+# best FILE: the best of nine runs, in microseconds.
+best() {
+  local least=999999999 run start took
+  for run in 1 2 3 4 5 6 7 8 9; do
+    start=${EPOCHREALTIME//[.,]/}
+    "$program" write-slot -c "$1" no.0 no > said 2>&1 || true
+    took=$((${EPOCHREALTIME//[.,]/} - start))
+    grep -q '^rauc: no such slot: no.0$' said || { cat said >&2; exit 1; }
+    if [ "$took" -lt "$least" ]; then least=$took; fi
+  done
+  echo "$least"
+}
+
+for kind in comments groups slots; do
+  for size in 262144 524288 1048576; do
+    # The last line is cut off whole, so that it is no bad one.
+    (head_of; "$kind") 2> /dev/null | head -c "$size" | sed '$d' > file || true
+    took=$(best file)
+    awk -v kind="$kind" -v size="$(wc -c < file)" -v took="$took" \
+      'BEGIN { printf "%-8s %8d bytes %8.2f ms %8.1f MB/s\n", kind, size, took / 1000, size / took }'
+  done
+done
