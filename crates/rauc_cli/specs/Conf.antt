@@ -5,7 +5,8 @@ use Rattle.updater_text.specs.declared.stops.Lack.TheVariants as lack
 use Rattle.keyfile.specs.Groups.{Group}
 use Rattle.keyfile.specs.Reading.{read_of}
 use Rattle.keyfile.specs.declared.fault.KeyFault.{KeyFault}
-use Rattle.system_conf.specs.Refusals.{Configuration, shown, system_of}
+use Rattle.system_conf.specs.Refusals.{Configuration, system_of}
+use Rattle.system_conf.specs.Reads.{shown}
 use Rattle.system_conf.specs.declared.conf_refusal.ConfRefusal.{ConfRefusal}
 use Rattle.system_conf.specs.declared.system.System.{System}
 use Rattle.rauc_cli.specs.declared.conf.BadConf.{BadConf}

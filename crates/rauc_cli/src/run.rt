@@ -1,6 +1,6 @@
 ghost use Rattle.std.specs.Prelude.{◌≤◌, ℕ, List, IfOk, Some};
 ghost use Rattle.machine.specs.Past.{now};
-ghost use Rattle.system_conf.specs.Refusals.{shown};
+ghost use Rattle.system_conf.specs.Reads.{shown};
 ghost use Rattle.rauc_cli.specs.Words.{command_of};
 ghost use Rattle.rauc_cli.specs.Slots.{slot_answer, slot_device};
 ghost use Rattle.rauc_cli.specs.Plans.{command_plan, file_plan, plan_of, slot_plan, words_plan};
