@@ -3,11 +3,10 @@
 
 use machine_linux::Linux;
 use rauc_cli::rauc;
-use std::env;
 use std::env::Env;
-use std::io;
 use std::io::ErrorKind;
 use std::process::ExitCode;
+use std::{env, io};
 use updater_text::{Text, WriterSink};
 
 /// The exit status for want of memory before the words are read.

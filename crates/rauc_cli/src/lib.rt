@@ -15,4 +15,6 @@ pub use run::rauc;
 pub use slots::write_slot;
 
 #[cfg(test)]
+mod conf_tests;
+#[cfg(test)]
 mod tests;

@@ -4,22 +4,22 @@ use std::alloc::Global;
 use std::test::Fail;
 use updater_text::{Items, MemorySink, NoMemory, Text};
 
-const CONF: &str =
+pub(crate) const CONF: &str =
     "[system]\ncompatible=Test\nbootloader=grub\ngrubenv=/env\nstatusfile=/status\n\n[slot.rootfs.0]\ndevice=/dev/a\nbootname=A\n\n[slot.rootfs.1]\ndevice=/dev/b\nbootname=B\n";
 
 const WRITTEN: &str =
     "slot rootfs.1 written: 3 bytes, sha256 ba7816bf8f01cfea414140de5dae2223b00361a396177a9cb410ff61f20015ad\n";
 
-const WORDS: [&str; 5] = ["write-slot", "-c", "/c", "rootfs.1", "/r.img"];
+pub(crate) const WORDS: [&str; 5] = ["write-slot", "-c", "/c", "rootfs.1", "/r.img"];
 
 // A run on two devices, the first full of AA and the second full of BB, with a configuration at `/c`
 // and an image at `/r.img`.
 #[derive(Drop)]
-struct Ran {
-    status: u8,
+pub(crate) struct Ran {
+    pub status: u8,
     out: MemorySink,
     err: MemorySink,
-    machine: MemoryMachine,
+    pub machine: MemoryMachine,
 }
 
 fn named(alloc: Global, path: &str, bytes: Vec<u8>) -> Result<Named, NoMemory> {
@@ -37,7 +37,7 @@ fn texts(alloc: Global, words: &[&str]) -> Result<Vec<Text>, NoMemory> {
     Ok(texts)
 }
 
-fn run(
+pub(crate) fn run(
     alloc: Global,
     words: &[&str],
     conf: &str,
@@ -82,7 +82,7 @@ fn device_is(ran: &Ran, path: &str, front: &[u8], rest: u8) -> bool {
     false
 }
 
-fn says(ran: &Ran, status: u8, out: &str, err: &str) -> bool {
+pub(crate) fn says(ran: &Ran, status: u8, out: &str, err: &str) -> bool {
     ran.status == status && ran.out.bytes() == out.as_bytes() && ran.err.bytes() == err.as_bytes()
 }
 
@@ -180,84 +180,6 @@ fn refuses_other_words(rt: HostRuntime) -> Result<(), Fail> {
     let words = ["write-slot", "-c", "/c", "rootfs.1", "/r.img", "more"];
     let ran = run(alloc, &words, CONF, b"abc", 16, &[], &[])?;
     assert!(rt; says(&ran, 1, "", line));
-    Ok(())
-}
-
-#[test]
-fn refuses_key_files(rt: HostRuntime) -> Result<(), Fail> {
-    let rows = [
-        ("[system]\nx\n", "line 2 is bad"),
-        ("device=/dev/b\n", "line 1 stands before a group"),
-        ("[system]\ncompatible=\\x\n", "line 2 has a bad escape"),
-    ];
-    let alloc = rt.alloc();
-    for (conf, cause) in rows {
-        let ran = run(alloc, &WORDS, conf, b"abc", 16, &[], &[])?;
-        let line = format!(in alloc; "rauc: configuration: {cause}\n")?;
-        assert!(rt; says(&ran, 1, "", line.as_str()));
-    }
-    Ok(())
-}
-
-// Each stands below a `[system]` with a compatible and the boot loader grub.
-const REFUSED: [(&str, &str); 13] = [
-    (
-        "[slot.rootfs.1]\nbootname=B\n",
-        "[slot.rootfs.1] device missing",
-    ),
-    ("[foo]\n", "[foo] unknown"),
-    (
-        "[slot.rootfs.1]\ndevice=/dev/b\nfoo=1\n",
-        "[slot.rootfs.1] foo unknown",
-    ),
-    ("[polling]\n", "[polling] left out"),
-    (
-        "[slot.rootfs.1]\ndevice=dev/b\n",
-        "[slot.rootfs.1] device bad value",
-    ),
-    (
-        "[slot.rootfs.01]\ndevice=/dev/b\n",
-        "bad slot name [slot.rootfs.01]",
-    ),
-    (
-        "[slot.a.0]\ndevice=/dev/b\n[slot.a.1]\ndevice=/dev/b\n",
-        "a.0 and a.1 share a device",
-    ),
-    (
-        "[slot.a.0]\ndevice=/a\nbootname=A\n[slot.a.1]\ndevice=/b\nbootname=A\n",
-        "a.0 and a.1 share a bootname",
-    ),
-    (
-        "[slot.a.0]\ndevice=/a\nparent=b.0\n",
-        "a.0 has no such parent",
-    ),
-    (
-        "[slot.a.0]\ndevice=/a\nparent=a.1\n[slot.a.1]\ndevice=/b\nparent=a.0\n",
-        "parents of a.0 do not end",
-    ),
-    (
-        "[slot.a.0]\ndevice=/a\nparent=a.0\n",
-        "parents of a.0 do not end",
-    ),
-    (
-        "[slot.a.0]\ndevice=/a\nbootname=A\nparent=a.1\n[slot.a.1]\ndevice=/b\n",
-        "a.0 has parent and bootname",
-    ),
-    (
-        "[slot.a.0]\ndevice=/boot/grub/grubenv\n",
-        "device of a.0 is in use by rauc",
-    ),
-];
-
-#[test]
-fn refuses_configurations(rt: HostRuntime) -> Result<(), Fail> {
-    let alloc = rt.alloc();
-    for (rest, cause) in REFUSED {
-        let conf = format!(in alloc; "[system]\ncompatible=Test\nbootloader=grub\n{rest}")?;
-        let ran = run(alloc, &WORDS, conf.as_str(), b"abc", 16, &[], &[])?;
-        let line = format!(in alloc; "rauc: configuration: {cause}\n")?;
-        assert!(rt; says(&ran, 1, "", line.as_str()));
-    }
     Ok(())
 }
 
