@@ -1,24 +1,24 @@
-use crate::tests::{CONF, Ran, WORDS, run, says};
+use crate::tests::{CONF, WORDS, run, says};
 use std::alloc::{AllocError, Global};
 use std::test::Fail;
 use updater_text::NoMemory;
 
 const FIRST: &str = "[slot.rootfs.0]\ndevice=/dev/a\nbootname=A\n";
 
-const SECOND: &str = "[slot.rootfs.1]\ndevice=/dev/b\nbootname=B\n";
-
 const REAL: &str =
     "# Acme Gateway\n[system]\ncompatible=Acme Gateway\nbootloader=uboot\ndata-directory=/data/rauc\nbundle-formats=-plain\n\n[keyring]\npath=/etc/rauc/keyring.pem\n\n[handlers]\npost-install=/usr/lib/rauc/post\n\n[slot.rootfs.0]\ndevice=/dev/mmcblk0p2\ntype=ext4\nbootname=A\n\n[slot.appfs.0]\ndevice=/dev/mmcblk0p4\ntype=ext4\nparent=rootfs.0\n\n[slot.rootfs.1]\ndevice=/dev/mmcblk0p3\ntype=ext4\nbootname=B\n\n[slot.appfs.1]\ndevice=/dev/b\ntype=ext4\nparent=rootfs.1\n";
 
-// A write of three bytes to rootfs.1 with this configuration.
-fn with(alloc: Global, conf: &str) -> Result<Ran, NoMemory> {
-    run(alloc, &WORDS, conf, b"abc", 16, &[], &[])
+// How many writes a write of three bytes to this slot makes.
+fn writes(alloc: Global, slot: &str, conf: &str) -> Result<usize, NoMemory> {
+    let words = ["write-slot", "-c", "/c", slot, "/r.img"];
+    let ran = run(alloc, &words, conf, b"abc", 16, &[], &[])?;
+    Ok(ran.machine.world().writes.len())
 }
 
-// Whether a write is refused with this cause, and nothing is written.
+// Whether a write to rootfs.1 is refused with this cause, and nothing is written.
 fn refuses(alloc: Global, conf: &str, cause: &str) -> Result<bool, NoMemory> {
-    let ran = with(alloc, conf)?;
     let line = format!(in alloc; "rauc: {cause}\n")?;
+    let ran = run(alloc, &WORDS, conf, b"abc", 16, &[], &[])?;
     Ok(says(&ran, 1, "", line.as_str()) && ran.machine.world().writes.len() == 0)
 }
 
@@ -200,65 +200,72 @@ fn refuses_one_change(rt: HostRuntime) -> Result<(), Fail> {
 fn with_slots(alloc: Global, count: u8, besides: &str) -> Result<String, AllocError> {
     let mut text = format!(in alloc; "[system]\ncompatible=Test\nbootloader=grub\n{besides}")?;
     for number in 0..count {
-        let slot = format!(in alloc; "[slot.data.{number}]\ndevice=/dev/{number}\n")?;
-        text.push_str(slot.as_str())?;
+        push_slot(alloc, &mut text, number)?;
     }
     Ok(text)
 }
 
+fn push_slot(alloc: Global, text: &mut String, number: u8) -> Result<(), AllocError> {
+    let slot = format!(in alloc; "[slot.data.{number}]\ndevice=/dev/{number}\n")?;
+    text.push_str(slot.as_str())
+}
+
 #[test]
 fn reads_64_slots(rt: HostRuntime) -> Result<(), Fail> {
+    let rows = [
+        (64, "", "no such slot: rootfs.1"),
+        (65, "", "configuration: too many slots: 65"),
+        (
+            65,
+            "[slot.data.x]\ndevice=/dev/b\n",
+            "configuration: bad slot name [slot.data.x]",
+        ),
+        (
+            64,
+            "[slot.other.0]\ndevice=/dev/0\n",
+            "configuration: too many slots: 65",
+        ),
+    ];
     let alloc = rt.alloc();
-    let conf = with_slots(alloc, 63, SECOND)?;
-    assert_eq!(rt; with(alloc, conf.as_str())?.status, 0);
-    let conf = with_slots(alloc, 64, SECOND)?;
-    assert!(rt; refuses(alloc, conf.as_str(), "configuration: too many slots: 65")?);
-    let shared = format!(in alloc; "{SECOND}[slot.data.x]\ndevice=/dev/b\n")?;
-    let conf = with_slots(alloc, 64, shared.as_str())?;
-    assert!(rt;
-        refuses(
-            alloc,
-            conf.as_str(),
-            "configuration: bad slot name [slot.data.x]"
-        )?
-    );
-    let shared = format!(in alloc; "{SECOND}[slot.other.0]\ndevice=/dev/b\n")?;
-    let conf = with_slots(alloc, 63, shared.as_str())?;
-    assert!(rt; refuses(alloc, conf.as_str(), "configuration: too many slots: 65")?);
+    for (count, besides, cause) in rows {
+        let conf = with_slots(alloc, count, besides)?;
+        assert!(rt; refuses(alloc, conf.as_str(), cause)?);
+    }
     Ok(())
 }
 
 #[test]
 fn reads_a_real_configuration(rt: HostRuntime) -> Result<(), Fail> {
-    let alloc = rt.alloc();
-    assert!(rt; refuses(alloc, REAL, "no device /dev/mmcblk0p3")?);
-    let words = ["write-slot", "-c", "/c", "appfs.1", "/r.img"];
-    let ran = run(alloc, &words, REAL, b"abc", 16, &[], &[])?;
-    assert_eq!(rt; ran.status, 0);
-    assert_eq!(rt; ran.machine.world().writes.len(), 1);
+    assert!(rt; refuses(rt.alloc(), REAL, "no device /dev/mmcblk0p3")?);
+    assert_eq!(rt; writes(rt.alloc(), "appfs.1", REAL)?, 1);
     Ok(())
+}
+
+// A configuration that goes on in comments and empty lines to this length.
+fn with_comments(alloc: Global, length: usize) -> Result<String, AllocError> {
+    let mut conf = String::from_str(alloc, CONF)?;
+    for _ in 0..30_000 {
+        conf.push_str("# A comment as many files have it\n")?;
+    }
+    for _ in 0..length.saturating_sub(conf.len()) {
+        conf.push_str("\n")?;
+    }
+    Ok(conf)
 }
 
 #[test]
 fn reads_up_to_the_limit(rt: HostRuntime) -> Result<(), Fail> {
     let alloc = rt.alloc();
-    let mut conf = String::from_str(alloc, CONF)?;
-    for _ in 0..30_000 {
-        conf.push_str("# A comment as many files have it\n")?;
-    }
-    let rest = 1_048_576usize.saturating_sub(conf.len());
-    for _ in 0..rest {
-        conf.push_str("\n")?;
-    }
-    assert_eq!(rt; conf.len(), 1_048_576);
-    assert_eq!(rt; with(alloc, conf.as_str())?.status, 0);
-    conf.push_str("\n")?;
-    assert!(rt;
-        refuses(
-            alloc,
-            conf.as_str(),
-            "configuration: 1048577 bytes are too long"
-        )?
-    );
+    let conf = with_comments(alloc, 1_048_576)?;
+    assert_eq!(rt; writes(alloc, "rootfs.1", conf.as_str())?, 1);
+    Ok(())
+}
+
+#[test]
+fn refuses_more_than_the_limit(rt: HostRuntime) -> Result<(), Fail> {
+    let alloc = rt.alloc();
+    let conf = with_comments(alloc, 1_048_577)?;
+    let cause = "configuration: 1048577 bytes are too long";
+    assert!(rt; refuses(alloc, conf.as_str(), cause)?);
     Ok(())
 }
