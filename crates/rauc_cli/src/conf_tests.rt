@@ -1,4 +1,4 @@
-use crate::tests::{CONF, WORDS, run, says};
+use crate::tests::{CONF, Case, run, write};
 use std::alloc::{AllocError, Global};
 use std::test::Fail;
 use updater_text::NoMemory;
@@ -11,15 +11,23 @@ const REAL: &str =
 // How many writes a write of three bytes to this slot makes.
 fn writes(alloc: Global, slot: &str, conf: &str) -> Result<usize, NoMemory> {
     let words = ["write-slot", "-c", "/c", slot, "/r.img"];
-    let ran = run(alloc, &words, conf, b"abc", 16, &[], &[])?;
-    Ok(ran.machine.world().writes.len())
+    let case = Case {
+        words: &words,
+        conf,
+        ..write(b"abc", "")
+    };
+    Ok(run(alloc, case)?.writes)
 }
 
 // Whether a write to rootfs.1 is refused with this cause, and nothing is written.
 fn refuses(alloc: Global, conf: &str, cause: &str) -> Result<bool, NoMemory> {
     let line = format!(in alloc; "rauc: {cause}\n")?;
-    let ran = run(alloc, &WORDS, conf, b"abc", 16, &[], &[])?;
-    Ok(says(&ran, 1, "", line.as_str()) && ran.machine.world().writes.len() == 0)
+    let case = Case {
+        conf,
+        ..write(b"abc", line.as_str())
+    };
+    let seen = run(alloc, case)?;
+    Ok(seen.status == 1 && seen.said && seen.writes == 0)
 }
 
 #[test]

@@ -1,5 +1,5 @@
 use crate::rauc;
-use machine::{MemoryMachine, Named};
+use machine::{MemoryMachine, Named, World};
 use std::alloc::Global;
 use std::test::Fail;
 use updater_text::{Items, MemorySink, NoMemory, Text};
@@ -12,14 +12,39 @@ const WRITTEN: &str =
 
 pub(crate) const WORDS: [&str; 5] = ["write-slot", "-c", "/c", "rootfs.1", "/r.img"];
 
-// A run on two devices, the first full of AA and the second full of BB, with a configuration at `/c`
-// and an image at `/r.img`.
-#[derive(Drop)]
-pub(crate) struct Ran {
+// What a run is given, and what it should say.
+#[derive(Clone, Copy)]
+pub(crate) struct Case<'a> {
+    pub words: &'a [&'a str],
+    pub conf: &'a str,
+    pub image: &'a [u8],
+    /// The length of each device in bytes.
+    pub device: usize,
+    /// The numbers of the calls of the machine that fail, and of the puts on the output.
+    pub fails: &'a [u64],
+    pub out_fails: &'a [u64],
+    pub out: &'a str,
+    pub err: &'a str,
+}
+
+// What is seen of a run on two devices, the first full of AA and the second full of BB, with a
+// configuration at `/c` and an image at `/r.img`.
+#[derive(Clone, Copy)]
+pub(crate) struct Seen {
     pub status: u8,
-    out: MemorySink,
-    err: MemorySink,
-    pub machine: MemoryMachine,
+    /// Whether both sinks hold what they should.
+    pub said: bool,
+    /// Whether the first device is as before.
+    pub kept: bool,
+    /// Whether the second begins with the image and goes on as before.
+    pub written: bool,
+    /// Whether the second is as before.
+    pub spared: bool,
+    pub writes: usize,
+    pub pending: usize,
+    pub runs: usize,
+    pub fetched: u128,
+    pub faults: u64,
 }
 
 fn named(alloc: Global, path: &str, bytes: Vec<u8>) -> Result<Named, NoMemory> {
@@ -37,103 +62,156 @@ fn texts(alloc: Global, words: &[&str]) -> Result<Vec<Text>, NoMemory> {
     Ok(texts)
 }
 
-pub(crate) fn run(
-    alloc: Global,
-    words: &[&str],
-    conf: &str,
-    image: &[u8],
-    device: usize,
-    fails: &[u64],
-    out_fails: &[u64],
-) -> Result<Ran, NoMemory> {
+fn machine_of(alloc: Global, case: Case<'_>) -> Result<MemoryMachine, NoMemory> {
     let mut disks = Items::new(alloc);
-    disks.push(named(alloc, "/dev/a", vec![in alloc; 0xaa; device]?)?)?;
-    disks.push(named(alloc, "/dev/b", vec![in alloc; 0xbb; device]?)?)?;
+    disks.push(named(alloc, "/dev/a", vec![in alloc; 0xaa; case.device]?)?)?;
+    disks.push(named(alloc, "/dev/b", vec![in alloc; 0xbb; case.device]?)?)?;
     let mut files = Items::new(alloc);
-    files.push(named(alloc, "/c", Vec::from_slice(alloc, conf.as_bytes())?)?)?;
-    files.push(named(alloc, "/r.img", Vec::from_slice(alloc, image)?)?)?;
-    let mut machine = MemoryMachine::new(alloc, disks, files, Vec::from_slice(alloc, fails)?);
-    let mut out = MemorySink::new(alloc, 4096, Vec::from_slice(alloc, out_fails)?)?;
+    files.push(named(alloc, "/c", Vec::from_slice(alloc, case.conf.as_bytes())?)?)?;
+    files.push(named(alloc, "/r.img", Vec::from_slice(alloc, case.image)?)?)?;
+    let fails = Vec::from_slice(alloc, case.fails)?;
+    Ok(MemoryMachine::new(alloc, disks, files, fails))
+}
+
+// Whether the device at this place begins with these bytes, and goes on with this one.
+fn device_is(world: &World, at: usize, front: &[u8], rest: u8) -> bool {
+    let Some(disk) = world.disks.as_slice().get(at) else {
+        return false;
+    };
+    let bytes = disk.bytes.as_slice();
+    bytes.starts_with(front) && bytes.iter().skip(front.len()).all(|byte| *byte == rest)
+}
+
+fn look_at(world: &World, image: &[u8], status: u8, said: bool, faults: u64) -> Seen {
+    Seen {
+        status,
+        said,
+        kept: device_is(world, 0, b"", 0xaa),
+        written: device_is(world, 1, image, 0xbb),
+        spared: device_is(world, 1, b"", 0xbb),
+        writes: world.writes.len(),
+        pending: world.pending.len(),
+        runs: world.runs.len(),
+        fetched: world.fetched,
+        faults,
+    }
+}
+
+fn run_on(
+    alloc: Global,
+    case: Case<'_>,
+    machine: &mut MemoryMachine,
+) -> Result<(u8, bool), NoMemory> {
+    let words = texts(alloc, case.words)?;
+    let out_fails = Vec::from_slice(alloc, case.out_fails)?;
+    let mut out = MemorySink::new(alloc, 4096, out_fails)?;
     let mut err = MemorySink::new(alloc, 4096, Vec::new(alloc))?;
-    let words = texts(alloc, words)?;
-    let finish = rauc(alloc, words.as_slice(), &mut machine, &mut out, &mut err);
-    Ok(Ran {
-        status: finish.status(),
+    let finish = rauc(alloc, words.as_slice(), machine, &mut out, &mut err);
+    let said = out.bytes() == case.out.as_bytes() && err.bytes() == case.err.as_bytes();
+    Ok((finish.status(), said))
+}
+
+pub(crate) fn run(alloc: Global, case: Case<'_>) -> Result<Seen, NoMemory> {
+    let mut machine = machine_of(alloc, case)?;
+    let (status, said) = run_on(alloc, case, &mut machine)?;
+    let faults = machine.faults();
+    Ok(look_at(machine.world(), case.image, status, said, faults))
+}
+
+// A write of this image on devices of 16 bytes, and the line that it should put on the output or,
+// where the line begins with `rauc: `, on the error output.
+pub(crate) fn write<'a>(image: &'a [u8], line: &'a str) -> Case<'a> {
+    let (out, err) = if line.starts_with("rauc: ") {
+        ("", line)
+    } else {
+        (line, "")
+    };
+    Case {
+        words: &WORDS,
+        conf: CONF,
+        image,
+        device: 16,
+        fails: &[],
+        out_fails: &[],
         out,
         err,
-        machine,
-    })
-}
-
-// A run of `write-slot` on devices of 16 bytes.
-fn write(alloc: Global, image: &[u8], fails: &[u64]) -> Result<Ran, NoMemory> {
-    run(alloc, &WORDS, CONF, image, 16, fails, &[])
-}
-
-// Whether a device begins with these bytes, and goes on with this one.
-fn device_is(ran: &Ran, path: &str, front: &[u8], rest: u8) -> bool {
-    for disk in ran.machine.world().disks.as_slice() {
-        if disk.path.as_str() == path {
-            let bytes = disk.bytes.as_slice();
-            return bytes.starts_with(front)
-                && bytes.iter().skip(front.len()).all(|byte| *byte == rest);
-        }
     }
-    false
-}
-
-pub(crate) fn says(ran: &Ran, status: u8, out: &str, err: &str) -> bool {
-    ran.status == status && ran.out.bytes() == out.as_bytes() && ran.err.bytes() == err.as_bytes()
 }
 
 #[test]
 fn writes_an_image(rt: HostRuntime) -> Result<(), Fail> {
-    let ran = write(rt.alloc(), b"abc", &[])?;
-    assert!(rt; says(&ran, 0, WRITTEN, ""));
-    assert!(rt; device_is(&ran, "/dev/b", b"abc", 0xbb));
-    assert!(rt; device_is(&ran, "/dev/a", b"", 0xaa));
-    let world = ran.machine.world();
-    assert_eq!(rt; world.writes.len(), 1);
-    assert_eq!(rt; world.pending.len(), 0);
-    assert_eq!(rt; world.runs.len(), 0);
-    assert_eq!(rt; world.fetched, 3);
+    let seen = run(rt.alloc(), write(b"abc", WRITTEN))?;
+    assert_eq!(rt; seen.status, 0);
+    assert!(rt; seen.said && seen.kept && seen.written);
+    assert_eq!(rt; seen.writes, 1);
+    assert_eq!(rt; seen.pending, 0);
+    assert_eq!(rt; seen.runs, 0);
+    assert_eq!(rt; seen.fetched, 3);
     Ok(())
 }
 
 #[test]
-fn writes_images_that_fit(rt: HostRuntime) -> Result<(), Fail> {
-    let alloc = rt.alloc();
-    let ran = write(alloc, b"", &[])?;
+fn writes_an_empty_image(rt: HostRuntime) -> Result<(), Fail> {
     let line =
         "slot rootfs.1 written: 0 bytes, sha256 e3b0c44298fc1c149afbf4c8996fb92427ae41e4649b934ca495991b7852b855\n";
-    assert!(rt; says(&ran, 0, line, ""));
-    assert_eq!(rt; ran.machine.world().writes.len(), 0);
-    let ran = write(alloc, b"0123456789abcdef", &[])?;
-    assert_eq!(rt; ran.status, 0);
-    assert!(rt; device_is(&ran, "/dev/b", b"0123456789abcdef", 0));
-    let ran = write(alloc, b"0123456789abcdefg", &[])?;
-    let line = "rauc: image /r.img: 17 bytes do not fit device of 16\n";
-    assert!(rt; says(&ran, 1, "", line));
-    assert!(rt; device_is(&ran, "/dev/b", b"", 0xbb));
+    let seen = run(rt.alloc(), write(b"", line))?;
+    assert_eq!(rt; seen.status, 0);
+    assert!(rt; seen.said && seen.kept && seen.spared);
+    assert_eq!(rt; seen.writes, 0);
     Ok(())
+}
+
+#[test]
+fn writes_an_image_that_fills_the_device(rt: HostRuntime) -> Result<(), Fail> {
+    let line =
+        "slot rootfs.1 written: 16 bytes, sha256 9f9f5111f7b27a781f1f1ddde5ebc2dd2b796bfc7365c9c28b548e564176929f\n";
+    let seen = run(rt.alloc(), write(b"0123456789abcdef", line))?;
+    assert_eq!(rt; seen.status, 0);
+    assert!(rt; seen.said && seen.kept && seen.written);
+    Ok(())
+}
+
+#[test]
+fn refuses_an_image_that_is_too_large(rt: HostRuntime) -> Result<(), Fail> {
+    let line = "rauc: image /r.img: 17 bytes do not fit device of 16\n";
+    let seen = run(rt.alloc(), write(b"0123456789abcdefg", line))?;
+    assert_eq!(rt; seen.status, 1);
+    assert!(rt; seen.said && seen.kept && seen.spared);
+    Ok(())
+}
+
+// A write of 150,000 bytes to devices of as many, with this call failing, where there is one.
+fn write_pieces(alloc: Global, fails: &[u64], out: &str, err: &str) -> Result<Seen, NoMemory> {
+    let image = vec![in alloc; 7; 150_000]?;
+    let case = Case {
+        image: image.as_slice(),
+        device: 150_000,
+        fails,
+        out,
+        err,
+        ..write(b"", "")
+    };
+    run(alloc, case)
 }
 
 #[test]
 fn writes_in_pieces(rt: HostRuntime) -> Result<(), Fail> {
-    let alloc = rt.alloc();
-    let image = vec![in alloc; 7; 150_000]?;
-    let ran = run(alloc, &WORDS, CONF, image.as_slice(), 150_000, &[], &[])?;
-    assert_eq!(rt; ran.status, 0);
-    assert!(rt; device_is(&ran, "/dev/b", image.as_slice(), 0));
-    let mut places = Vec::new(alloc);
-    for span in ran.machine.world().writes.as_slice() {
-        places.push(span.at)?;
-    }
-    assert!(rt; places.as_slice() == [0, 65_536, 131_072].as_slice());
+    let line =
+        "slot rootfs.1 written: 150000 bytes, sha256 fe3115a6fc4bd68e49c25f272efb7483cdbbff3f7d69ecc03ac558abf6a24f9a\n";
+    let seen = write_pieces(rt.alloc(), &[], line, "")?;
+    assert_eq!(rt; seen.status, 0);
+    assert!(rt; seen.said && seen.kept && seen.written);
+    assert_eq!(rt; seen.writes, 3);
+    Ok(())
+}
+
+#[test]
+fn stops_at_a_piece(rt: HostRuntime) -> Result<(), Fail> {
     // The seventh call is the second write.
-    let ran = run(alloc, &WORDS, CONF, image.as_slice(), 150_000, &[7], &[])?;
-    assert!(rt; says(&ran, 2, "", "rauc: outside fault: write\n"));
-    assert!(rt; device_is(&ran, "/dev/a", b"", 0xaa));
+    let seen = write_pieces(rt.alloc(), &[7], "", "rauc: outside fault: write\n")?;
+    assert_eq!(rt; seen.status, 2);
+    assert!(rt; seen.said && seen.kept);
+    assert_eq!(rt; seen.writes, 1);
     Ok(())
 }
 
@@ -151,63 +229,74 @@ fn refuses_by_name(rt: HostRuntime) -> Result<(), Fail> {
     ];
     for (slot, conf, image, line) in rows {
         let words = ["write-slot", "-c", conf, slot, image];
-        let ran = run(rt.alloc(), &words, CONF, b"abc", 16, &[], &[])?;
-        assert!(rt; says(&ran, 1, "", line));
-        assert!(rt; device_is(&ran, "/dev/b", b"", 0xbb));
+        let case = Case {
+            words: &words,
+            ..write(b"abc", line)
+        };
+        let seen = run(rt.alloc(), case)?;
+        assert_eq!(rt; seen.status, 1);
+        assert!(rt; seen.said && seen.kept && seen.spared);
     }
     Ok(())
 }
 
+// Whether these words are answered as bad usage.
+fn is_bad_usage(alloc: Global, words: &[&str]) -> Result<bool, NoMemory> {
+    let case = Case {
+        words,
+        ..write(b"abc", "rauc: bad usage, see rauc --help\n")
+    };
+    let seen = run(alloc, case)?;
+    Ok(seen.status == 1 && seen.said && seen.spared)
+}
+
 #[test]
 fn refuses_other_words(rt: HostRuntime) -> Result<(), Fail> {
-    let line = "rauc: bad usage, see rauc --help\n";
     let alloc = rt.alloc();
-    let ran = run(alloc, &[], CONF, b"abc", 16, &[], &[])?;
-    assert!(rt; says(&ran, 1, "", line));
-    let ran = run(
-        alloc,
-        &["write-slot", "/c", "rootfs.1", "/r.img"],
-        CONF,
-        b"abc",
-        16,
-        &[],
-        &[],
-    )?;
-    assert!(rt; says(&ran, 1, "", line));
-    let words = ["install", "-c", "/c", "rootfs.1", "/r.img"];
-    let ran = run(alloc, &words, CONF, b"abc", 16, &[], &[])?;
-    assert!(rt; says(&ran, 1, "", line));
-    let words = ["write-slot", "-c", "/c", "rootfs.1", "/r.img", "more"];
-    let ran = run(alloc, &words, CONF, b"abc", 16, &[], &[])?;
-    assert!(rt; says(&ran, 1, "", line));
+    assert!(rt; is_bad_usage(alloc, &[])?);
+    assert!(rt; is_bad_usage(alloc, &["write-slot", "/c", "rootfs.1", "/r.img"])?);
+    assert!(rt; is_bad_usage(alloc, &["install", "-c", "/c", "rootfs.1", "/r.img"])?);
+    assert!(rt;
+        is_bad_usage(
+            alloc,
+            &["write-slot", "-c", "/c", "rootfs.1", "/r.img", "more"]
+        )?
+    );
     Ok(())
 }
 
 #[test]
 fn names_a_call_that_failed(rt: HostRuntime) -> Result<(), Fail> {
     let rows = [
-        (1, "read"),
-        (2, "size"),
-        (3, "size"),
-        (4, "read"),
-        (5, "write"),
-        (6, "sync"),
+        (1, "rauc: outside fault: read\n"),
+        (2, "rauc: outside fault: size\n"),
+        (3, "rauc: outside fault: size\n"),
+        (4, "rauc: outside fault: read\n"),
+        (5, "rauc: outside fault: write\n"),
+        (6, "rauc: outside fault: sync\n"),
     ];
-    let alloc = rt.alloc();
-    for (number, word) in rows {
-        let ran = write(alloc, b"abc", &[number])?;
-        let line = format!(in alloc; "rauc: outside fault: {word}\n")?;
-        assert!(rt; says(&ran, 2, "", line.as_str()));
-        assert!(rt; device_is(&ran, "/dev/a", b"", 0xaa));
-        assert_eq!(rt; ran.machine.faults(), 1);
+    for (number, line) in rows {
+        let fails = [number];
+        let case = Case {
+            fails: &fails,
+            ..write(b"abc", line)
+        };
+        let seen = run(rt.alloc(), case)?;
+        assert_eq!(rt; seen.status, 2);
+        assert!(rt; seen.said && seen.kept);
+        assert_eq!(rt; seen.faults, 1);
     }
     Ok(())
 }
 
 #[test]
 fn goes_on_where_it_cannot_tell(rt: HostRuntime) -> Result<(), Fail> {
-    let ran = run(rt.alloc(), &WORDS, CONF, b"abc", 16, &[], &[1])?;
-    assert!(rt; says(&ran, 2, "", ""));
-    assert!(rt; device_is(&ran, "/dev/b", b"abc", 0xbb));
+    let case = Case {
+        out_fails: &[1],
+        ..write(b"abc", "")
+    };
+    let seen = run(rt.alloc(), case)?;
+    assert_eq!(rt; seen.status, 2);
+    assert!(rt; seen.said && seen.kept && seen.written);
     Ok(())
 }
