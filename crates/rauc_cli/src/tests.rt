@@ -1,5 +1,5 @@
 use crate::rauc;
-use machine::{MemoryMachine, Named, World};
+use machine::{MemoryMachine, Named, Span, World};
 use std::alloc::Global;
 use std::test::Fail;
 use updater_text::{Items, MemorySink, NoMemory, Text};
@@ -25,6 +25,8 @@ pub(crate) struct Case<'a> {
     pub out_fails: &'a [u64],
     pub out: &'a str,
     pub err: &'a str,
+    /// Where the writes should begin.
+    pub places: &'a [u64],
 }
 
 // What is seen of a run on two devices, the first full of AA and the second full of BB, with a
@@ -41,6 +43,8 @@ pub(crate) struct Seen {
     /// Whether the second is as before.
     pub spared: bool,
     pub writes: usize,
+    /// Whether the writes begin where they should.
+    pub placed: bool,
     pub pending: usize,
     pub runs: usize,
     pub fetched: u128,
@@ -82,14 +86,23 @@ fn device_is(world: &World, at: usize, front: &[u8], rest: u8) -> bool {
     bytes.starts_with(front) && bytes.iter().skip(front.len()).all(|byte| *byte == rest)
 }
 
-fn look_at(world: &World, image: &[u8], status: u8, said: bool, faults: u64) -> Seen {
+fn are_at(writes: &[Span], places: &[u64]) -> bool {
+    writes.len() == places.len()
+        && writes
+            .iter()
+            .zip(places)
+            .all(|(write, place)| write.at == *place)
+}
+
+fn look_at(world: &World, case: Case<'_>, status: u8, said: bool, faults: u64) -> Seen {
     Seen {
         status,
         said,
         kept: device_is(world, 0, b"", 0xaa),
-        written: device_is(world, 1, image, 0xbb),
+        written: device_is(world, 1, case.image, 0xbb),
         spared: device_is(world, 1, b"", 0xbb),
         writes: world.writes.len(),
+        placed: are_at(world.writes.as_slice(), case.places),
         pending: world.pending.len(),
         runs: world.runs.len(),
         fetched: world.fetched,
@@ -115,7 +128,7 @@ pub(crate) fn run(alloc: Global, case: Case<'_>) -> Result<Seen, NoMemory> {
     let mut machine = machine_of(alloc, case)?;
     let (status, said) = run_on(alloc, case, &mut machine)?;
     let faults = machine.faults();
-    Ok(look_at(machine.world(), case.image, status, said, faults))
+    Ok(look_at(machine.world(), case, status, said, faults))
 }
 
 // A write of this image on devices of 16 bytes, and the line that it should put on the output or,
@@ -135,6 +148,7 @@ pub(crate) fn write<'a>(image: &'a [u8], line: &'a str) -> Case<'a> {
         out_fails: &[],
         out,
         err,
+        places: &[],
     }
 }
 
@@ -189,6 +203,7 @@ fn write_pieces(alloc: Global, fails: &[u64], out: &str, err: &str) -> Result<Se
         fails,
         out,
         err,
+        places: &[0, 65_536, 131_072],
         ..write(b"", "")
     };
     run(alloc, case)
@@ -200,7 +215,7 @@ fn writes_in_pieces(rt: HostRuntime) -> Result<(), Fail> {
         "slot rootfs.1 written: 150000 bytes, sha256 fe3115a6fc4bd68e49c25f272efb7483cdbbff3f7d69ecc03ac558abf6a24f9a\n";
     let seen = write_pieces(rt.alloc(), &[], line, "")?;
     assert_eq!(rt; seen.status, 0);
-    assert!(rt; seen.said && seen.kept && seen.written);
+    assert!(rt; seen.said && seen.kept && seen.written && seen.placed);
     assert_eq!(rt; seen.writes, 3);
     Ok(())
 }
