@@ -42,6 +42,16 @@ same() {
   fi
 }
 
+# at_most LIMIT COUNT WHAT: a count was measured and is no more than the limit.
+at_most() {
+  if [ "${2:-$(($1 + 1))}" -le "$1" ]; then
+    passed=$((passed + 1))
+  else
+    failed=$((failed + 1))
+    echo "failed: ${2:-no count of} $3, over $1"
+  fi
+}
+
 digest() { sha256sum < "$1" | cut -c1-64; }
 
 # slots SIZE: two devices of so many bytes, and a configuration over them.
@@ -110,23 +120,13 @@ expect 0 "slot rootfs.1 written: 268435456 bytes, sha256 $(digest large.img)" wr
 same large.img b
 if [ -x /usr/bin/time ]; then
   memory=$(/usr/bin/time -f %M "$program" write-slot -c c rootfs.1 large.img 2>&1 > /dev/null)
-  if [ "$memory" -lt 8192 ]; then
-    passed=$((passed + 1))
-  else
-    failed=$((failed + 1))
-    echo "failed: $memory KiB resident for an image of 256 MiB"
-  fi
+  at_most 8191 "$memory" "KiB resident for an image of 256 MiB"
 else
   echo "skipped: resident memory, since /usr/bin/time is missing"
 fi
 if command -v strace > /dev/null; then
   calls=$(strace -f -c -e trace=read,pread64,write,pwrite64,fsync,fdatasync,lseek "$program" write-slot -c c rootfs.1 large.img 2>&1 > /dev/null | awk '/total$/ { print $(NF - 1) }')
-  if [ "${calls:-99999}" -le $((3 * 4096)) ]; then
-    passed=$((passed + 1))
-  else
-    failed=$((failed + 1))
-    echo "failed: $calls system calls for 4096 pieces"
-  fi
+  at_most $((3 * 4096)) "$calls" "system calls for 4096 pieces"
 else
   echo "skipped: system calls, since strace is missing"
 fi

@@ -1,5 +1,5 @@
 -- A key file as the list of its groups, each with the list of its keys and values.
-use Rattle.std.specs.Prelude.{◌≡◌, ◌+◌, ℕ, Bool, true, false, ◌&&◌, ◌||◌, not, ◌==◌, nat_le, List, [], ◌∷◌, ◌++◌, Option, Some, None, map, find, fold, filter, filter_map, zero, suc, option_map, option_and_then, if◌then◌else◌, length, slice_get, string_bytes}
+use Rattle.std.specs.Prelude.{ℕ, Bool, true, ◌&&◌, ◌||◌, not, ◌==◌, nat_le, List, [], ◌∷◌, ◌++◌, Option, map, find, zero, suc, option_map, option_and_then, if◌then◌else◌, length, slice_get, string_bytes}
 use Rattle.std.specs.Option.{option_map_or}
 use Rattle.std.specs.Str.{bytes_eq}
 use Rattle.std.specs.List.{list_all, list_any, position_or_len}

@@ -1,11 +1,9 @@
 -- What a whole text says as a key file.
-use Rattle.std.specs.Prelude.{◌≡◌, ℕ, ◌+◌, not, nat_lt, List, [], ◌∷◌, ◌++◌, length, take, map, filter, filter_map, fold, Option, Some, None, is_some, unwrap_or, Result, Ok, Err, if◌then◌else◌}
+use Rattle.std.specs.Prelude.{ℕ, ◌+◌, not, nat_lt, List, [], ◌∷◌, ◌++◌, length, take, map, filter, filter_map, fold, Option, Some, None, is_some, unwrap_or, Result, Ok, Err, if◌then◌else◌}
 use Rattle.std.specs.List.{enumerate_from}
 use Rattle.std.specs.Str.{bytes_eq, is_utf8}
 use Rattle.std.specs.Str.Lines.{lines}
 use Rattle.std.specs.Str.Lossy.{utf8_valid_len}
-use Rattle.updater_text.specs.declared.stops.Lack.{Lack}
-use Rattle.updater_text.specs.declared.stops.Lack.TheVariants as lack
 use Rattle.keyfile.specs.Escapes.{unescaped}
 use Rattle.keyfile.specs.Groups.{Text, Entry, Group}
 use Rattle.keyfile.specs.Lines.{Line, nothing, heading, entry, bad, line_of}

@@ -3,11 +3,14 @@ use std::test::Fail;
 use updater_text::Lack;
 
 // A configuration as a board has it.
-const SYSTEM: &[u8; 390] = b"[system]
+const SYSTEM: &[u8; 428] = b"[system]
 compatible=Acme Gateway
 bootloader=uboot
 data-directory=/data/rauc
 bundle-formats=-plain
+
+[keyring]
+path=/etc/rauc/keyring.pem
 
 [handlers]
 post-install=/usr/lib/rauc/post
@@ -86,7 +89,7 @@ fn reads_forms(rt: HostRuntime) -> Result<(), Fail> {
 #[test]
 fn reads_real_files(rt: HostRuntime) -> Result<(), Fail> {
     let system = read(rt.alloc(), SYSTEM)?;
-    assert_eq!(rt; system.groups(), 6);
+    assert_eq!(rt; system.groups(), 7);
     assert_eq!(rt; system.get("slot.appfs.1", "parent"), Some("rootfs.1"));
     let text = system.write()?;
     assert_eq!(rt; text.as_slice(), SYSTEM.as_slice());
@@ -123,6 +126,28 @@ fn refuses(rt: HostRuntime) -> Result<(), Fail> {
     }
     assert!(rt; fault_of(&rt, b"").is_none());
     assert!(rt; fault_of(&rt, b" # \x01\n[a=b] \t\n\tk.1 =\t\\n\\t\\r\\s\x7f ").is_none());
+    Ok(())
+}
+
+// The fault of the worked example with a byte between the first so many bytes and the rest.
+fn fault_with(rt: &HostRuntime, at: usize, byte: u8) -> Result<Option<KeyFault>, Fail> {
+    let Some((front, back)) = FORMS.split_at_checked(at) else {
+        return Ok(None);
+    };
+    let mut text = Vec::from_slice(rt.alloc(), front)?;
+    text.push(byte)?;
+    text.extend_from_slice(back)?;
+    Ok(fault_of(rt, text.as_slice()))
+}
+
+#[test]
+fn refuses_other_bytes_at_each_place(rt: HostRuntime) -> Result<(), Fail> {
+    for at in 0..42usize {
+        assert_eq!(rt;
+            fault_with(&rt, at, 0xff)?,
+            Some(KeyFault::NotUtf8 { at: at as u64 })
+        );
+    }
     Ok(())
 }
 
