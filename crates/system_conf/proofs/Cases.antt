@@ -1,5 +1,5 @@
 -- Configurations and what they mean: the definitions, computed on small files.
-use Rattle.std.proofs.Common.{◌≡◌, ℕ, true, false, List, [], ◌∷◌, ◌++◌, map, Option, Some, None, codes, refl}
+use Rattle.std.proofs.Common.{◌≡◌, true, false, List, [], ◌∷◌, ◌++◌, map, Option, Some, None, codes, refl}
 use Rattle.boot_model.specs.declared.boot_kind.BootKind.TheVariants as boot
 use Rattle.keyfile.specs.Groups.{Text, Entry, Group}
 use Rattle.system_conf.specs.Refusals.{Configuration, refusal_of, configuration, missing, unknown_key, left_out, bad_value, bad_slot_name, too_many, same_device, same_bootname, no_parent, parent_cycle, child_boot_name, device_is_file}

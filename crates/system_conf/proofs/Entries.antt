@@ -1,5 +1,5 @@
 -- The entries of a group at a place.
-use Rattle.std.proofs.Common.{◌≡◌, ℕ, List, [], length, Option, Some, None, slice_get, refl}
+use Rattle.std.proofs.Common.{◌≡◌, ℕ, List, [], length, Some, None, slice_get, refl}
 use Rattle.std.specs.Option.{option_map_or}
 use Rattle.keyfile.specs.Groups.{Group, key_count}
 use Rattle.system_conf.specs.Places.{entries_at}

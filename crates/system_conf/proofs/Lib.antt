@@ -2,10 +2,8 @@ mod Cases
 mod Differ
 mod Entries
 mod FirstOf
-mod Lists
 mod Mandatory
 mod Names
 mod Numbered
-mod Slashes
 mod SlotGroups
 mod Soundness

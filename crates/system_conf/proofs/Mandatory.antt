@@ -1,10 +1,10 @@
 -- The mandatory keys of the slots that were read.
 use Rattle.std.proofs.Common.{◌≡◌, List, map, codes, sym, ◌∙◌}
 use Rattle.keyfile.specs.Groups.{Text, Group}
-use Rattle.system_conf.specs.Lists.{first_of}
+use Rattle.conf_forms.specs.Lists.{first_of}
 use Rattle.system_conf.specs.Refusals.{missing_at, device_keys}
-use Rattle.system_conf.specs.Slots.{parts, slot_parts, slot_groups}
-use Rattle.system_conf.specs.declared.slot_group.SlotGroup.{SlotGroup}
+use Rattle.conf_forms.specs.SlotNames.{parts, slot_parts, slot_groups}
+use Rattle.conf_forms.specs.declared.slot_name.SlotGroup.{SlotGroup}
 use Rattle.system_conf.proofs.FirstOf.{first_of-map}
 use Rattle.system_conf.proofs.SlotGroups.{first_of-groups}
 

@@ -1,6 +1,6 @@
 -- What is read and not refused is sound.
 use Rattle.std.proofs.Common.{◌≡◌, ℕ, Bool, true, false, cond, ◌&&◌, nat_lt, List, [], ◌∷◌, length, map, Option, Some, None, codes, refl, sym, ◌∙◌, ap, subst}
-use Rattle.std.specs.Prelude.{is_none, option_and_then, position}
+use Rattle.std.specs.Prelude.{is_none, option_and_then}
 use Rattle.std.specs.Option.{option_map_or}
 use Rattle.std.specs.List.{list_all, position_or_len}
 use Rattle.std.specs.Str.{bytes_eq}
@@ -8,12 +8,12 @@ use Rattle.std.proofs.lemmas.List.{length-map}
 use Rattle.boot_model.specs.declared.boot_kind.BootKind.{BootKind}
 use Rattle.boot_model.specs.declared.boot_kind.BootKind.TheVariants as boot
 use Rattle.keyfile.specs.Groups.{Text, Group, get_in}
-use Rattle.system_conf.specs.Lists.{or_else, first_of}
+use Rattle.conf_forms.specs.Lists.{or_else, first_of}
 use Rattle.system_conf.specs.Values.{boot_of, boot_file, grub_file_of, grubenv_of, loader_of, attempts_in, flag_in, custom_program_of, mount_prefix_of, status_file_of, data_directory_of}
-use Rattle.system_conf.specs.Slots.{slot_groups, slot_names, slot_called, slots_of, slot_of, parent_of, name_of}
+use Rattle.conf_forms.specs.SlotNames.{slot_groups, slot_names, name_of}
+use Rattle.system_conf.specs.Slots.{slot_called, slots_of, slot_of}
 use Rattle.system_conf.specs.Refusals.{slot_rows, first_row, device_is_file, kept_device, kept_of, boot_kept, Kept, too_many, same_device, same_bootname, no_parent, parent_cycle, child_boot_name}
 use Rattle.system_conf.specs.Sound.{parents_stand, are_unrefused}
-use Rattle.system_conf.specs.declared.conf_refusal.ConfRefusal.{ConfRefusal}
 use Rattle.system_conf.specs.declared.slot.Slot.{Slot}
 
 left_none : {A : Type 0} (a b : Option A) → None ≡ or_else a b → a ≡ None

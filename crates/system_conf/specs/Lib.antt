@@ -1,6 +1,3 @@
-pub mod Forms
-pub mod Keys
-pub mod Lists
 pub mod Places
 pub mod Reads
 pub mod Refusals

@@ -1,21 +1,21 @@
 -- The refusals of a configuration, each by what holds of the whole list of its groups, and the configuration where none holds.
-use Rattle.std.specs.Prelude.{◌≡◌, ℕ, ◌==◌, Bool, true, false, ◌&&◌, ◌||◌, not, nat_lt, List, [], ◌∷◌, ◌++◌, codes, length, take, map, Option, Some, None, is_some, is_none, option_map, unwrap_or, Result, Ok, Err, if◌then◌else◌}
+use Rattle.std.specs.Prelude.{ℕ, Bool, true, false, ◌&&◌, ◌||◌, not, nat_lt, List, [], ◌∷◌, ◌++◌, codes, length, take, map, Option, Some, None, is_some, is_none, option_map, unwrap_or, Result, Ok, Err, if◌then◌else◌}
 use Rattle.std.specs.Option.{option_map_or}
 use Rattle.std.specs.List.{enumerate_from, list_any}
 use Rattle.std.specs.Str.{bytes_eq}
 use Rattle.boot_model.specs.declared.boot_kind.BootKind.{BootKind}
 use Rattle.keyfile.specs.Groups.{Text, Entry, Group, get_in}
-use Rattle.system_conf.specs.Lists.{first_of, or_else}
-use Rattle.system_conf.specs.Forms.{fits, is_left_out, without_slash}
-use Rattle.system_conf.specs.Keys.{is_kind, kind_of, form_of}
+use Rattle.conf_forms.specs.Lists.{first_of}
+use Rattle.conf_forms.specs.Forms.{fits, is_left_out, without_slash}
+use Rattle.conf_forms.specs.Keys.{is_kind, kind_of, form_of}
 use Rattle.system_conf.specs.Values.{loader_of, mount_prefix_of, data_directory_of, grub_file_of, central_file, status_file_of, handler_of, helpers_of, boot_of, boot_file, is_within, is_at, is_below, lies_under}
-use Rattle.system_conf.specs.Slots.{name_of, is_slot_group, slot_groups, slot_names, slot_called, slots_of, chain_ends}
+use Rattle.conf_forms.specs.SlotNames.{name_of, is_slot_group, slot_groups, slot_names}
+use Rattle.system_conf.specs.Slots.{slot_called, slots_of, chain_ends}
 use Rattle.system_conf.specs.declared.conf_refusal.ConfRefusal.{ConfRefusal}
 use Rattle.system_conf.specs.declared.conf_refusal.ConfRefusal.TheVariants as refusal
 use Rattle.system_conf.specs.declared.places.Fault.{Fault}
 use Rattle.system_conf.specs.declared.places.Fault.TheVariants as fault
-use Rattle.system_conf.specs.declared.keys.GroupKind.TheVariants as kind
-use Rattle.system_conf.specs.declared.form.Form.{Form}
+use Rattle.conf_forms.specs.declared.keys.GroupKind.TheVariants as kind
 use Rattle.system_conf.specs.declared.shared.Shared.{Shared}
 use Rattle.system_conf.specs.declared.shared.Shared.TheVariants as shared
 use Rattle.system_conf.specs.declared.slot.Slot.{Slot}

@@ -4,8 +4,8 @@ use Rattle.std.specs.Option.{option_map_or}
 use Rattle.std.specs.List.{list_all}
 use Rattle.boot_model.specs.declared.boot_kind.BootKind.{BootKind}
 use Rattle.keyfile.specs.Groups.{Text}
-use Rattle.system_conf.specs.Lists.{first_of}
-use Rattle.system_conf.specs.Refusals.{Kept, boot_kept, first_row, too_many, same_device, same_bootname, parent_cycle, child_boot_name, kept_device}
+use Rattle.conf_forms.specs.Lists.{first_of}
+use Rattle.system_conf.specs.Refusals.{boot_kept, first_row, too_many, same_device, same_bootname, parent_cycle, child_boot_name, kept_device}
 use Rattle.system_conf.specs.declared.slot.Slot.{Slot}
 
 -- each parent is the place of a slot

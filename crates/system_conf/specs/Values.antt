@@ -1,5 +1,5 @@
 -- The values of a configuration, with their defaults. A value that does not have its form counts as one that is not there.
-use Rattle.std.specs.Prelude.{ℕ, ◌==◌, Bool, true, false, ◌&&◌, ◌||◌, List, [], ◌∷◌, ◌++◌, codes, nat_eq, length, slice_index, Option, Some, None, option_map, option_and_then, unwrap_or, if◌then◌else◌}
+use Rattle.std.specs.Prelude.{ℕ, ◌==◌, Bool, true, false, ◌&&◌, ◌||◌, List, [], ◌++◌, codes, nat_eq, length, slice_index, Option, Some, None, option_map, option_and_then, unwrap_or, if◌then◌else◌}
 use Rattle.std.specs.Option.{option_map_or}
 use Rattle.std.specs.List.{starts_with}
 use Rattle.std.specs.Str.{bytes_eq}
@@ -7,10 +7,10 @@ use Rattle.updater_text.specs.Flags.{flag_of}
 use Rattle.boot_model.specs.declared.boot_kind.BootKind.{BootKind}
 use Rattle.boot_model.specs.declared.boot_kind.BootKind.TheVariants as boot
 use Rattle.keyfile.specs.Groups.{Text, Group, get_in}
-use Rattle.system_conf.specs.Lists.{or_else, passing}
-use Rattle.system_conf.specs.Forms.{fits, attempts_of, without_slash}
-use Rattle.system_conf.specs.declared.form.Form.{Form}
-use Rattle.system_conf.specs.declared.form.Form.TheVariants as form
+use Rattle.conf_forms.specs.Lists.{or_else, passing}
+use Rattle.conf_forms.specs.Forms.{fits, attempts_of, without_slash}
+use Rattle.conf_forms.specs.declared.form.Form.{Form}
+use Rattle.conf_forms.specs.declared.form.Form.TheVariants as form
 use Rattle.system_conf.specs.declared.system.Helpers.{Helpers}
 
 -- the value of a key whose values have this form

@@ -1,5 +1,5 @@
 ghost use Rattle.std.specs.Prelude.{◌≡◌, IfOk, length, option_copied};
-ghost use Rattle.system_conf.specs.Lists.{first_of};
+ghost use Rattle.conf_forms.specs.Lists.{first_of};
 ghost use Rattle.system_conf.specs.Values as value;
 ghost use Rattle.system_conf.specs.Refusals as spec;
 

@@ -2,9 +2,7 @@
 #![tactic(auto)]
 
 mod conf_refusal;
-mod form;
 mod kept;
-mod keys;
 mod missing;
 mod parents;
 mod places;
@@ -12,7 +10,6 @@ mod read_slots;
 mod reading;
 mod shared;
 mod slot;
-mod slot_group;
 mod slot_rows;
 mod system;
 mod taken;

@@ -1,11 +1,11 @@
 ghost use Rattle.std.specs.Prelude.{◌≡◌, IfOk, map};
-ghost use Rattle.system_conf.specs.Lists.{first_of};
-ghost use Rattle.system_conf.specs.Slots.{parts, slot_parts};
+ghost use Rattle.conf_forms.specs.Lists.{first_of};
+ghost use Rattle.conf_forms.specs.SlotNames.{parts, slot_parts};
 ghost use Rattle.system_conf.specs.Refusals as spec;
 
 use crate::ConfRefusal;
-use crate::slot_group::SlotGroup;
 use crate::values::loader_of;
+use conf_forms::SlotGroup;
 use keyfile::KeyFile;
 use std::alloc::Global;
 use updater_text::{NoMemory, Text};

@@ -1,10 +1,11 @@
 ghost use Rattle.std.specs.Prelude.{◌≡◌, IfOk, option_and_then, map, slice_get};
-ghost use Rattle.system_conf.specs.Slots.{parts, parts_of, slot_parts, parent_at, chain_ends};
+ghost use Rattle.conf_forms.specs.SlotNames.{parts, parts_of, slot_parts};
+ghost use Rattle.system_conf.specs.Slots.{parent_at, chain_ends};
 ghost use Rattle.system_conf.specs.Refusals as spec;
 
 use crate::read_slots::slot_called;
-use crate::slot_group::SlotGroup;
 use crate::{ConfRefusal, Slot};
+use conf_forms::SlotGroup;
 use keyfile::KeyFile;
 use std::alloc::Global;
 use updater_text::{NoMemory, Text};

@@ -1,13 +1,12 @@
 ghost use Rattle.std.specs.Prelude.{◌≡◌, ◌<◌, [], IfOk, length, map, option_map, slice_get, Some};
-ghost use Rattle.system_conf.specs.Lists.{first_of};
-ghost use Rattle.system_conf.specs.Slots.{parts, slot_parts};
+ghost use Rattle.conf_forms.specs.Lists.{first_of};
+ghost use Rattle.conf_forms.specs.SlotNames.{parts, slot_parts};
 ghost use Rattle.system_conf.specs.Places as place;
 ghost use Rattle.system_conf.specs.Refusals as spec;
 
 use crate::ConfRefusal;
-use crate::keys::{GroupKind, form_of, kind_of};
-use crate::slot_group::SlotGroup;
 use crate::taken::is_taken;
+use conf_forms::{GroupKind, SlotGroup, form_of, kind_of};
 use keyfile::KeyFile;
 use std::alloc::Global;
 use updater_text::{NoMemory, Text};

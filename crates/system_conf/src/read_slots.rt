@@ -1,11 +1,11 @@
 ghost use Rattle.std.specs.Prelude.{◌≡◌, IfOk, map, position};
 ghost use Rattle.std.specs.Str.{bytes_eq};
+ghost use Rattle.conf_forms.specs.SlotNames.{parts, parts_of, slot_parts};
 ghost use Rattle.system_conf.specs.Slots as spec;
 
-use crate::form::Form;
-use crate::slot_group::SlotGroup;
 use crate::values::{flag_in, owned, value_of};
 use crate::{Slot, SlotKind};
+use conf_forms::{Form, SlotGroup};
 use keyfile::KeyFile;
 use std::alloc::Global;
 use updater_text::{Items, NoMemory, Text};
@@ -16,7 +16,7 @@ pub fn read_slots(
     file: &KeyFile,
     groups: &[SlotGroup<'_>],
 ) -> Result<Items<Slot>, NoMemory>
-    requires { map spec.parts groups.now ≡ spec.slot_parts file.now }
+    requires { map parts groups.now ≡ slot_parts file.now }
     ensures { IfOk result (λ slots. slots ≡ spec.slots_of file.now) }
 {
     let mut slots = Items::new(alloc);
@@ -32,8 +32,8 @@ fn read_slot(
     groups: &[SlotGroup<'_>],
     slot: &SlotGroup<'_>,
 ) -> Result<Slot, NoMemory>
-    requires groups { map spec.parts groups.now ≡ spec.slot_parts file.now }
-    requires slot { spec.parts slot.now ≡ spec.parts_of slot.now.group.now }
+    requires groups { map parts groups.now ≡ slot_parts file.now }
+    requires slot { parts slot.now ≡ parts_of slot.now.group.now }
     ensures { IfOk result (λ read. read ≡ spec.slot_of file.now slot.now.group.now) }
 {
     let group = slot.group;
@@ -72,7 +72,7 @@ fn kind_of(alloc: Global, file: &KeyFile, group: &str) -> Result<SlotKind, NoMem
 }
 
 fn parent_of(file: &KeyFile, groups: &[SlotGroup<'_>], group: &str) -> Option<usize>
-    requires { map spec.parts groups.now ≡ spec.slot_parts file.now }
+    requires { map parts groups.now ≡ slot_parts file.now }
     ensures { result ≡ spec.parent_of file.now group.now }
 {
     match file.get(group, "parent") {

@@ -1,7 +1,8 @@
 ghost use Rattle.std.specs.Prelude.{◌≡◌, None, IfOk, map};
 ghost use Rattle.std.specs.List.{IsDistinct};
 ghost use Rattle.std.specs.Str.{bytes_eq};
-ghost use Rattle.system_conf.specs.Slots.{parts, slot_parts, slots_of};
+ghost use Rattle.conf_forms.specs.SlotNames.{parts, slot_parts};
+ghost use Rattle.system_conf.specs.Slots.{slots_of};
 ghost use Rattle.system_conf.specs.Reads.{Reads, shown};
 ghost use Rattle.system_conf.specs.Refusals as spec;
 
@@ -11,12 +12,12 @@ use crate::parents::{child_boot_name, no_parent, parent_cycle};
 use crate::places::{bad_value, left_out, unknown_key};
 use crate::read_slots::read_slots;
 use crate::shared::{same_bootname, same_device};
-use crate::slot_group::{SlotGroup, slot_groups};
 use crate::slot_rows::bad_slot_name;
 use crate::values::{
     boot_of, data_directory_of, handler_of, helpers_of, mount_prefix_of, owned, status_file_of,
 };
 use crate::{ConfRefusal, Slot, System};
+use conf_forms::{SlotGroup, slot_groups};
 use keyfile::KeyFile;
 use std::alloc::Global;
 use updater_text::{Items, Lack, NoMemory, Text};

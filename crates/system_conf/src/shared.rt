@@ -1,5 +1,5 @@
 ghost use Rattle.std.specs.Prelude.{◌≡◌, IfOk, option_and_then, slice_get};
-ghost use Rattle.system_conf.specs.Lists.{first_of};
+ghost use Rattle.conf_forms.specs.Lists.{first_of};
 ghost use Rattle.system_conf.specs.Refusals as spec;
 
 use crate::{ConfRefusal, Slot};

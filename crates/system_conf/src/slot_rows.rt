@@ -2,8 +2,7 @@ ghost use Rattle.std.specs.Prelude.{◌≡◌, IfOk, option_and_then, slice_get}
 ghost use Rattle.system_conf.specs.Refusals as spec;
 
 use crate::ConfRefusal;
-use crate::keys::{GroupKind, kind_of};
-use crate::slot_group::slot_group;
+use conf_forms::{GroupKind, kind_of, slot_group};
 use keyfile::KeyFile;
 use std::alloc::Global;
 use updater_text::{NoMemory, Text};

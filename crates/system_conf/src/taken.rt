@@ -1,15 +1,14 @@
 ghost use Rattle.std.specs.Prelude.{◌≡◌, IfOk, map};
 ghost use Rattle.std.specs.List.{list_any};
 ghost use Rattle.std.specs.Str.{bytes_eq};
-ghost use Rattle.system_conf.specs.Slots.{parts, slot_parts};
+ghost use Rattle.conf_forms.specs.SlotNames.{parts, slot_parts};
 ghost use Rattle.system_conf.specs.Values.{is_within, lies_under};
 ghost use Rattle.system_conf.specs.Refusals as spec;
 
-use crate::form::without_slash;
-use crate::slot_group::SlotGroup;
 use crate::values::{
     central_file, data_directory_of, grub_file_of, mount_prefix_of, status_file_of,
 };
+use conf_forms::{SlotGroup, without_slash};
 use keyfile::KeyFile;
 use std::alloc::Global;
 use updater_text::NoMemory;

@@ -2,8 +2,8 @@ ghost use Rattle.std.specs.Prelude.{◌≡◌, IfOk, option_copied};
 ghost use Rattle.system_conf.specs.Values as spec;
 
 use crate::Helpers;
-use crate::form::{Form, attempts_of, without_slash};
 use boot_model::BootKind;
+use conf_forms::{Form, attempts_of, without_slash};
 use keyfile::KeyFile;
 use std::alloc::Global;
 use updater_text::{NoMemory, Text, read_flag};

@@ -1,5 +1,4 @@
-use Rattle.std.proofs.Common.{◌≡◌, Some, None, codes, sym, ◌∙◌, ap}
-use Rattle.keyfile.specs.Groups.{Text}
+use Rattle.std.proofs.Common.{codes, sym, ◌∙◌}
 use Rattle.system_conf.specs.Refusals.{missing, missing_at, device_keys, custom_keys}
 use Rattle.system_conf.proofs.FirstOf.{is_along, first_of-second, first_of-first, after_two}
 use Rattle.system_conf.proofs.missing.missing.Goals as goal

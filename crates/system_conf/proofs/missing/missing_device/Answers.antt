@@ -1,7 +1,7 @@
-use Rattle.std.proofs.Common.{◌≡◌, Some, None, codes, take, sym, ◌∙◌, ap, take_all}
-use Rattle.system_conf.specs.Lists.{first_of}
+use Rattle.std.proofs.Common.{codes, sym, ◌∙◌, ap, take_all}
+use Rattle.conf_forms.specs.Lists.{first_of}
 use Rattle.system_conf.specs.Refusals.{missing_at}
-use Rattle.system_conf.specs.declared.slot_group.SlotGroup.{SlotGroup}
+use Rattle.conf_forms.specs.declared.slot_name.SlotGroup.{SlotGroup}
 use Rattle.system_conf.proofs.FirstOf.{first_of_more, first_of_hit}
 use Rattle.system_conf.proofs.Mandatory.{first_of-device_keys}
 use Rattle.system_conf.proofs.missing.missing_device.Goals as goal

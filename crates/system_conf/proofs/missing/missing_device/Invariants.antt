@@ -1,5 +1,5 @@
 use Rattle.std.proofs.Common.{◌≡◌, take, codes, None}
-use Rattle.system_conf.specs.Lists.{first_of}
+use Rattle.conf_forms.specs.Lists.{first_of}
 use Rattle.system_conf.specs.Refusals.{missing_at}
 use Rattle.system_conf.proofs.missing.missing_device.Given as goal
 

@@ -1,7 +1,7 @@
-use Rattle.std.proofs.Common.{◌≡◌, true, cond, List, [], ◌∷◌, codes, sym, ◌∙◌, ap}
+use Rattle.std.proofs.Common.{cond, [], ◌∷◌, codes, sym, ◌∙◌, ap}
 use Rattle.std.specs.Str.{bytes_eq}
 use Rattle.keyfile.specs.Groups.{Text}
-use Rattle.system_conf.specs.Lists.{first_of}
+use Rattle.conf_forms.specs.Lists.{first_of}
 use Rattle.system_conf.specs.Refusals.{missing_at}
 use Rattle.system_conf.proofs.FirstOf.{is_along, or_else-None}
 use Rattle.system_conf.proofs.missing.missing_program.Goals as goal

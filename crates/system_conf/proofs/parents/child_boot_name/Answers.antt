@@ -1,4 +1,4 @@
-use Rattle.std.proofs.Common.{◌∙◌, sym, ap}
+use Rattle.std.proofs.Common.{◌∙◌, sym}
 use Rattle.system_conf.specs.Refusals.{booted_child, child_boot_name}
 use Rattle.system_conf.proofs.FirstOf.{item_of_hit, item_of_more}
 use Rattle.system_conf.proofs.parents.child_boot_name.Goals as goal

@@ -1,10 +1,10 @@
-use Rattle.std.proofs.Common.{ℕ, Option, true, ◌∙◌, ap}
+use Rattle.std.proofs.Common.{Option, true, ◌∙◌, ap}
 use Rattle.std.specs.Prelude.{is_some}
 use Rattle.std.specs.Option.{option_map_or}
 use Rattle.std.specs.Str.{bytes_eq}
 use Rattle.keyfile.specs.Groups.{Text}
 use Rattle.system_conf.specs.Slots.{slot_called}
-use Rattle.system_conf.proofs.SlotGroups.{position-names}
+use Rattle.conf_forms.proofs.SlotNames.{position-names}
 use Rattle.system_conf.proofs.parents.has_parent.Goals as goal
 
 pub returns-in-Some : goal.returns-in-Some

@@ -1,9 +1,10 @@
 use Rattle.std.proofs.Common.{◌∙◌, sym, ap, take_all}
-use Rattle.system_conf.specs.Lists.{first_of}
+use Rattle.conf_forms.specs.Lists.{first_of}
 use Rattle.system_conf.specs.Refusals.{no_parent, orphan}
-use Rattle.system_conf.specs.declared.slot_group.SlotGroup.{SlotGroup}
+use Rattle.conf_forms.specs.declared.slot_name.SlotGroup.{SlotGroup}
 use Rattle.system_conf.proofs.FirstOf.{first_of_more, first_of_hit}
-use Rattle.system_conf.proofs.SlotGroups.{parts_at, first_of-groups}
+use Rattle.conf_forms.proofs.SlotNames.{parts_at}
+use Rattle.system_conf.proofs.SlotGroups.{first_of-groups}
 use Rattle.system_conf.proofs.parents.no_parent.Goals as goal
 
 pub orphan-requires-clause-slot : goal.orphan-requires-clause-slot

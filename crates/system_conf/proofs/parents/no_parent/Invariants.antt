@@ -1,5 +1,5 @@
 use Rattle.std.proofs.Common.{◌≡◌, take, None}
-use Rattle.system_conf.specs.Lists.{first_of}
+use Rattle.conf_forms.specs.Lists.{first_of}
 use Rattle.system_conf.specs.Refusals.{orphan}
 use Rattle.system_conf.proofs.parents.no_parent.Given as goal
 

@@ -1,6 +1,6 @@
 use Rattle.std.proofs.Common.{◌∙◌, sym, ap}
 use Rattle.std.specs.List.{enumerate_from}
-use Rattle.system_conf.specs.Lists.{first_of}
+use Rattle.conf_forms.specs.Lists.{first_of}
 use Rattle.system_conf.specs.Refusals.{endless, parent_cycle}
 use Rattle.system_conf.proofs.FirstOf.{item_hit, item_more}
 use Rattle.system_conf.proofs.Numbered.{numbered_at, numbered_within, numbered_all}

@@ -1,4 +1,4 @@
-use Rattle.std.proofs.Common.{◌∙◌, ap, sym, subst, ◌<◌, length}
+use Rattle.std.proofs.Common.{◌∙◌, ap, sym, subst, ◌<◌}
 use Rattle.std.specs.Prelude.{option_map, ℕ}
 use Rattle.system_conf.specs.Places.{shown, key_place, entries_at}
 use Rattle.system_conf.proofs.FirstOf.{item_hit, item_more}

@@ -1,9 +1,9 @@
-use Rattle.std.proofs.Common.{ℕ, Option, ◌∙◌, ap}
+use Rattle.std.proofs.Common.{Option, ◌∙◌, ap}
 use Rattle.std.specs.Prelude.{option_and_then}
 use Rattle.std.specs.Str.{bytes_eq}
 use Rattle.keyfile.specs.Groups.{Text}
 use Rattle.system_conf.specs.Slots.{slot_called}
-use Rattle.system_conf.proofs.SlotGroups.{position-names}
+use Rattle.conf_forms.proofs.SlotNames.{position-names}
 use Rattle.system_conf.proofs.read_slots.parent_of.Goals as goal
 
 pub returns-in-Some : goal.returns-in-Some

@@ -1,7 +1,8 @@
-use Rattle.std.proofs.Common.{map, take_all, ◌∙◌, ap, sym}
+use Rattle.std.proofs.Common.{map, take_all, ◌∙◌, ap}
 use Rattle.system_conf.specs.Slots.{slot_of}
-use Rattle.system_conf.specs.declared.slot_group.SlotGroup.{SlotGroup}
-use Rattle.system_conf.proofs.SlotGroups.{parts_at, slots_read}
+use Rattle.conf_forms.specs.declared.slot_name.SlotGroup.{SlotGroup}
+use Rattle.conf_forms.proofs.SlotNames.{parts_at}
+use Rattle.system_conf.proofs.SlotGroups.{slots_read}
 use Rattle.system_conf.proofs.read_slots.read_slots.Goals as goal
 
 pub read_slot-requires-clause-slot : goal.read_slot-requires-clause-slot

@@ -1,4 +1,4 @@
-use Rattle.std.proofs.Common.{◌∙◌, sym, ap}
+use Rattle.std.proofs.Common.{◌∙◌, sym}
 use Rattle.system_conf.specs.Refusals.{twins}
 use Rattle.system_conf.proofs.FirstOf.{item_of_hit, item_of_more}
 use Rattle.system_conf.proofs.shared.twin_among.Goals as goal

@@ -1,4 +1,4 @@
-use Rattle.std.proofs.Common.{ℕ, ◌<◌, length, ◌∙◌, sym, subst}
+use Rattle.std.proofs.Common.{ℕ, ◌<◌, ◌∙◌, sym, subst}
 use Rattle.system_conf.specs.Refusals.{bad_slot_name, misnamed}
 use Rattle.system_conf.proofs.FirstOf.{item_hit, item_more}
 use Rattle.system_conf.proofs.slot_rows.bad_slot_name.Goals as goal

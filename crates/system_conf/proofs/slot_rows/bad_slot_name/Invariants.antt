@@ -1,5 +1,5 @@
 use Rattle.std.proofs.Common.{◌≡◌, take, None}
-use Rattle.system_conf.specs.Lists.{first_of}
+use Rattle.conf_forms.specs.Lists.{first_of}
 use Rattle.system_conf.specs.Refusals.{misnamed}
 use Rattle.system_conf.proofs.slot_rows.bad_slot_name.Given as goal
 

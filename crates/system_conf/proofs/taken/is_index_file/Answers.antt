@@ -1,11 +1,10 @@
-use Rattle.std.proofs.Common.{Option, false, sym, ◌∙◌, ap, subst}
-use Rattle.std.specs.Prelude.{IfOk}
+use Rattle.std.proofs.Common.{Option, false, ◌∙◌, ap}
 use Rattle.std.specs.Option.{option_map_or}
 use Rattle.std.specs.Str.{bytes_eq}
 use Rattle.keyfile.specs.Groups.{Text}
 use Rattle.system_conf.specs.Refusals.{index_file, has_index}
-use Rattle.system_conf.specs.Slots.{slot_names}
-use Rattle.system_conf.proofs.SlotGroups.{list_any-names}
+use Rattle.conf_forms.specs.SlotNames.{slot_names}
+use Rattle.conf_forms.proofs.SlotNames.{list_any-names}
 use Rattle.system_conf.proofs.FirstOf.{is_along}
 use Rattle.system_conf.proofs.taken.is_index_file.Goals as goal
 

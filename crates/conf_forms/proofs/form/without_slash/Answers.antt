@@ -1,7 +1,7 @@
-use Rattle.std.proofs.Common.{◌<◌, ◌∙◌, ap, lit<, refl}
+use Rattle.std.proofs.Common.{◌∙◌, ap, lit<, refl}
 use Rattle.std.proofs.lemmas.Str.Pattern.{strip_suffix_char}
-use Rattle.system_conf.proofs.Slashes.{without_slash-read}
-use Rattle.system_conf.proofs.form.without_slash.Goals as goal
+use Rattle.conf_forms.proofs.Slashes.{without_slash-read}
+use Rattle.conf_forms.proofs.form.without_slash.Goals as goal
 
 pub returns : goal.returns
 returns c =

@@ -1,12 +1,12 @@
 -- The groups and keys of a configuration.
-use Rattle.std.specs.Prelude.{ℕ, Bool, true, false, List, [], ◌∷◌, codes, nat_eq, find, Option, Some, None, option_map, unwrap_or}
+use Rattle.std.specs.Prelude.{Bool, true, false, List, [], ◌∷◌, codes, nat_eq, find, Option, Some, None, option_map, unwrap_or}
 use Rattle.std.specs.List.{starts_with}
 use Rattle.keyfile.specs.Groups.{Text}
-use Rattle.system_conf.specs.Lists.{beside}
-use Rattle.system_conf.specs.declared.form.Form.{Form}
-use Rattle.system_conf.specs.declared.form.Form.TheVariants as form
-use Rattle.system_conf.specs.declared.keys.GroupKind.{GroupKind}
-use Rattle.system_conf.specs.declared.keys.GroupKind.TheVariants as kind
+use Rattle.conf_forms.specs.Lists.{beside}
+use Rattle.conf_forms.specs.declared.form.Form.{Form}
+use Rattle.conf_forms.specs.declared.form.Form.TheVariants as form
+use Rattle.conf_forms.specs.declared.keys.GroupKind.{GroupKind}
+use Rattle.conf_forms.specs.declared.keys.GroupKind.TheVariants as kind
 
 -- groups by their whole name
 abbrev pub named_groups : List (Text × GroupKind)

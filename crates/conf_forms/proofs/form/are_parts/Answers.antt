@@ -1,8 +1,8 @@
 use Rattle.std.proofs.Common.{eqb, rules}
 use Rattle.std.proofs.lemmas.Iterator.Search.{all_from_yields_List}
 use Rattle.std.proofs.lemmas.Iterator.Splits.{YieldsList-from_slice_split}
-use Rattle.system_conf.specs.Forms.{is_part}
-use Rattle.system_conf.proofs.form.are_parts.Goals as goal
+use Rattle.conf_forms.specs.Forms.{is_part}
+use Rattle.conf_forms.proofs.form.are_parts.Goals as goal
 use borrow.Author.Tests.{tests}
 
 pub returns : goal.returns

@@ -1,6 +1,6 @@
 ghost use Rattle.std.specs.Prelude.{◌≡◌, ◌==◌};
 ghost use Rattle.std.specs.List.{list_all, slice_split};
-ghost use Rattle.system_conf.specs.Forms as spec;
+ghost use Rattle.conf_forms.specs.Forms as spec;
 
 use updater_text::{read_flag, read_number};
 

@@ -1,13 +1,13 @@
 -- The forms that the values of a configuration have.
-use Rattle.std.specs.Prelude.{ℕ, ◌+◌, ◌-◌, ◌==◌, Bool, true, false, ◌&&◌, ◌||◌, not, nat_le, List, [], ◌∷◌, ◌++◌, codes, length, take, drop, slice_index, Option, Some, None, is_some, option_and_then, if◌then◌else◌}
+use Rattle.std.specs.Prelude.{ℕ, ◌-◌, ◌==◌, Bool, true, false, ◌&&◌, not, nat_le, List, [], ◌∷◌, codes, length, take, slice_index, Option, Some, None, is_some, if◌then◌else◌}
 use Rattle.std.specs.List.{list_all, slice_split}
 use Rattle.std.specs.Str.{bytes_eq}
 use Rattle.updater_text.specs.Flags.{flag_of}
 use Rattle.updater_text.specs.Numbers.{number_of}
 use Rattle.keyfile.specs.Groups.{Text}
-use Rattle.system_conf.specs.Lists.{is_among, passing}
-use Rattle.system_conf.specs.declared.form.Form.{Form}
-use Rattle.system_conf.specs.declared.form.Form.TheVariants as form
+use Rattle.conf_forms.specs.Lists.{is_among, passing}
+use Rattle.conf_forms.specs.declared.form.Form.{Form}
+use Rattle.conf_forms.specs.declared.form.Form.TheVariants as form
 
 -- the words of the boot loaders
 abbrev pub loaders : List Text

@@ -1,5 +1,5 @@
 ghost use Rattle.std.specs.Prelude.{◌≡◌};
-ghost use Rattle.system_conf.specs.Keys as spec;
+ghost use Rattle.conf_forms.specs.Keys as spec;
 
 use crate::form::Form;
 

@@ -1,9 +1,9 @@
 -- A slash at the end of a text.
-use Rattle.std.proofs.Common.{◌≡◌, ◌≢◌, ℕ, ◌+◌, ◌-◌, Bool, true, false, cond, eqb, List, [], ◌∷◌, ◌++◌, length, take, get_or, suc, Option, Some, None, Bor, refl, sym, ◌∙◌, ap, subst, arith, eq-eqb, length-append}
+use Rattle.std.proofs.Common.{◌≡◌, ◌≢◌, ℕ, ◌-◌, true, false, cond, eqb, List, [], ◌∷◌, ◌++◌, length, take, get_or, suc, Option, Some, None, Bor, refl, sym, ◌∙◌, ap, subst, arith, eq-eqb, length-append}
 use Rattle.std.specs.Prelude.{unwrap_or, MatchOption}
 use Rattle.std.proofs.Math.Seq.{get_or-append_seam, take-append_seam}
 use Rattle.std.proofs.lemmas.Bool.{eqb-true}
-use Rattle.system_conf.specs.Forms.{without_slash}
+use Rattle.conf_forms.specs.Forms.{without_slash}
 
 -- with a slash at the end it is the front
 without_slash-append : (front : List ℕ) → without_slash (front ++ 47 ∷ []) ≡ front

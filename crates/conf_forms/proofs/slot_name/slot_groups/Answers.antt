@@ -1,11 +1,11 @@
 use Rattle.std.proofs.Common.{List, ◌++◌, [], ◌∷◌, map, filter, sym, ◌∙◌, ap}
-use Rattle.std.specs.Prelude.{ℕ, vec_len}
+use Rattle.std.specs.Prelude.{ℕ}
 use Rattle.keyfile.specs.Groups.{Text, Group}
-use Rattle.system_conf.specs.Slots.{is_slot_group, parts, parts_of}
-use Rattle.system_conf.proofs.Lists.{not_past}
-use Rattle.system_conf.proofs.SlotGroups.{slot_parts_more}
-use Rattle.system_conf.proofs.slot_group.slot_groups.Goals as goal
-use Rattle.system_conf.proofs.slot_group.slot_groups.Goals.{in-Some+in_ok-push_slot, in_default}
+use Rattle.conf_forms.specs.SlotNames.{is_slot_group, parts, parts_of}
+use Rattle.conf_forms.proofs.Lists.{not_past}
+use Rattle.conf_forms.proofs.SlotNames.{slot_parts_more}
+use Rattle.conf_forms.proofs.slot_name.slot_groups.Goals as goal
+use Rattle.conf_forms.proofs.slot_name.slot_groups.Goals.{in-Some+in_ok-push_slot, in_default}
 
 pub loop-at-preserved : goal.loop-at-preserved
 loop-at-preserved c = elim c.match-group.branch [

@@ -1,7 +1,7 @@
 ghost use Rattle.std.specs.Prelude.{◌≡◌, ◌++◌, [], ◌∷◌, IfOk, OnOk, filter, map};
 ghost use Rattle.std.specs.List.{IsDistinct, list_all};
 ghost use Rattle.std.specs.Str.{bytes_eq};
-ghost use Rattle.system_conf.specs.Slots as spec;
+ghost use Rattle.conf_forms.specs.SlotNames as spec;
 
 use keyfile::KeyFile;
 use std::alloc::Global;
@@ -14,7 +14,9 @@ pub struct SlotGroup<'a> {
     pub group: &'a str,
     /// `<class>.<index>`
     pub name: &'a str,
+    /// 1 to 255 letters, digits, `-` and `_`.
     pub class: &'a str,
+    /// Which of the slots of its class it is.
     pub index: u32,
 }
 

@@ -1,0 +1,3 @@
+mod Lists
+mod Slashes
+pub mod SlotNames
