@@ -1,9 +1,11 @@
 mod Cases
+pub mod Chains
 mod Differ
 mod Entries
 mod FirstOf
 mod Mandatory
 mod Names
 mod Numbered
+mod Rootless
 mod SlotGroups
 mod Soundness

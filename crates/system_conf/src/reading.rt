@@ -4,6 +4,7 @@ ghost use Rattle.std.specs.Str.{bytes_eq};
 ghost use Rattle.conf_forms.specs.SlotNames.{parts, slot_parts};
 ghost use Rattle.system_conf.specs.Slots.{slots_of};
 ghost use Rattle.system_conf.specs.Reads.{Reads, shown};
+ghost use Rattle.system_conf.specs.Parents.{ChainsEndAtRoots, RootsTold};
 ghost use Rattle.system_conf.specs.Refusals as spec;
 
 use crate::kept::{device_is_file, too_many};
@@ -23,9 +24,13 @@ use std::alloc::Global;
 use updater_text::{Items, Lack, NoMemory, Text};
 
 /// Reads a configuration, as RAUC's chapter Reference describes `system.conf`, or refuses it with the
-/// first refusal that holds, in the order of `ConfRefusal`.
+/// first refusal that holds, in the order of `ConfRefusal`. `ParentCycle` names the first slot that
+/// lies under no root; each slot of a system lies under one.
+#[tactic(auto, using(crate::proofs::Rootless::chains_read, crate::proofs::Rootless::roots_told))]
 pub fn read_system(alloc: Global, file: &KeyFile) -> Result<System, Lack<ConfRefusal>>
-    ensures { Reads (spec.system_of file.now) result }
+    ensures reads { Reads (spec.system_of file.now) result }
+    ensures chains { ChainsEndAtRoots (slots_of file.now) }
+    ensures roots { RootsTold (slots_of file.now) result }
 {
     let groups = slot_groups(alloc, file)?;
     if let Some(why) = group_refusal(alloc, file, groups.as_slice())? {
