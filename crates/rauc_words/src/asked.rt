@@ -1,0 +1,51 @@
+ghost use Rattle.std.specs.Prelude.{◌≡◌};
+ghost use Rattle.rauc_words.specs.Table.{conf_path};
+
+use updater_text::Text;
+
+/// Where a configuration stands that no word names.
+const CONF: &str = "/etc/rauc/system.conf";
+
+/// Where a command finds the system that it works on.
+#[derive(Debug, Drop)]
+pub struct Place {
+    /// The path of the configuration, where the words name one.
+    pub conf: Option<Text>,
+    /// The slot that counts as booted, where the words name one.
+    pub given: Option<Text>,
+}
+
+/// A command with its values, of which none is empty or has a NUL.
+#[derive(Debug, Drop)]
+pub enum Command {
+    /// Writes the image at a path into the slot of this name.
+    WriteSlot {
+        place: Place,
+        slot: Text,
+        image: Text,
+    },
+}
+
+impl Command {
+    /// The path of the configuration: the one that the words name, or `/etc/rauc/system.conf`.
+    pub fn conf(&self) -> &str
+        ensures { result.now ≡ conf_path self.now }
+    {
+        let place = match self {
+            Command::WriteSlot { place, .. } => place,
+        };
+        match &place.conf {
+            Some(conf) => conf.as_str(),
+            None => CONF,
+        }
+    }
+}
+
+/// What some words ask for.
+#[derive(Debug, Drop)]
+pub enum Asked {
+    /// The help text.
+    Help,
+    /// A command.
+    Run(Command),
+}
