@@ -96,7 +96,7 @@ expect 1 "rauc: no such slot: rootfs.2" write-slot -c c rootfs.2 full.img
 expect 2 "rauc: outside fault: size" write-slot -c c rootfs.1 .
 expect 2 "rauc: outside fault: read" write-slot -c . rootfs.1 full.img
 expect 1 "rauc: bad usage, see rauc --help"
-expect 1 "rauc: bad usage, see rauc --help" write-slot rootfs.1 full.img
+expect 1 "rauc: bad usage, see rauc --help" write-slot rootfs.1
 expect 1 "rauc: bad usage, see rauc --help" $'\xff'
 same b before
 mv b gone

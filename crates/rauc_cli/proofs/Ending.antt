@@ -20,7 +20,10 @@ use Rattle.machine.proofs.Moments.{always_now, always_weaker, always_joins}
 use Rattle.machine.proofs.Joins.{now_unchanged, unchanged_file, unchanged_none}
 use Rattle.machine.proofs.Failing.{failed_joins, fails_file, fails_none}
 use Rattle.machine.proofs.Only.{only_refl}
-use Rattle.rauc_cli.specs.declared.command.Command.{Command}
+use Rattle.rauc_words.specs.declared.asked.Asked.{Asked}
+use Rattle.rauc_words.specs.declared.asked.Asked.TheVariants.{Help, Run}
+use Rattle.rauc_words.specs.declared.asked.Command.{Command}
+use Rattle.rauc_words.specs.Table.{conf_path}
 use Rattle.rauc_cli.specs.declared.conf.BadConf.TheVariants as bad
 use Rattle.rauc_cli.specs.declared.outcome.SlotRefusal.{SlotRefusal}
 use Rattle.rauc_cli.specs.declared.outcome.SlotWritten.{SlotWritten}
@@ -28,7 +31,6 @@ use Rattle.rauc_cli.specs.declared.outcome.Outcome.{Outcome}
 use Rattle.rauc_cli.specs.declared.outcome.Outcome.TheVariants as end
 use Rattle.rauc_cli.specs.declared.outcome.Report.{Report}
 use Rattle.rauc_cli.specs.declared.outcome.Finish.{Finish}
-use Rattle.rauc_cli.specs.Words.{conf_path}
 use Rattle.rauc_cli.specs.Conf.{conf_of}
 use Rattle.rauc_cli.specs.Lines.{failed, memory_report, outside}
 use Rattle.rauc_cli.specs.Slots.{PutKept, Puts}
@@ -53,6 +55,14 @@ keeps_unchanged t plan a b unchanged told = always_weaker a b (λ u. u ≡ now a
 -- no report: memory was wanting
 pub ended_memory : (t : Bool) (plan : Plan) (a b : Past) (memory : NoMemory) → (IsTrue t → Always a b (Kept plan (now a))) → Ended t plan a b (Err memory)
 ended_memory t plan a b memory kept = record { kept = kept; reported = λ told. tt; left = λ told. tt }
+
+pub ended_wanting : (t : Bool) (plan : Plan) (a : Past) (memory : NoMemory) → Ended t plan a a (Err memory)
+ended_wanting t plan a memory = ended_memory t plan a a memory (keeps_unchanged t plan a a (unchanged_none t a))
+
+pub caused_memory : (asked : Option Asked) (f : ℕ) → Caused asked f f end.NoMemory
+caused_memory (Some (Run command)) f = omega arith
+caused_memory (Some Help) f = omega arith
+caused_memory None f = omega arith
 
 -- nothing more is done
 pub ended_here : (t : Bool) (report : Report) (a : Past) (result : Result Report NoMemory) → IfOk result (λ r. r ≡ report) → Ended t (Stay report) a a result
@@ -134,31 +144,31 @@ conf_long bytes lt = rw (is_long (length bytes) 1048576 lt) refl
     is_long n k lt = grind (arith, nat_tests)
 
 module _ (t : Bool) (command : Command) (path : List ℕ) (is : path ≡ conf_path command) (a b : Past) where
-  found : (o : Option (List ℕ)) → file (now a) path ≡ o → file_plan (now a) command o ≡ words_plan (now a) (Some command)
+  found : (o : Option (List ℕ)) → file (now a) path ≡ o → file_plan (now a) command o ≡ words_plan (now a) (Some (Run command))
   found o e = ap (file_plan (now a) command) (sym e ∙ ap (file (now a)) is)
 
   unchanged : {T : Type 0} (got : Result T ReadStop) → (IsTrue t → FileEnds a b path got) → Unchanged t a b
   unchanged got ends = unchanged_file t a b path got ends
 
-  pub file_some : (c : Past) (bytes : List ℕ) (result : Result Report NoMemory) → (IsTrue t → FileEnds {T = Option (List ℕ)} a b path (Ok (Some bytes))) → ReadsFile t (file (now a) path) 1048576 (Ok (Some bytes)) → Ended t (file_plan (now b) command (Some bytes)) b c result → Ended t (words_plan (now a) (Some command)) a c result
+  pub file_some : (c : Past) (bytes : List ℕ) (result : Result Report NoMemory) → (IsTrue t → FileEnds {T = Option (List ℕ)} a b path (Ok (Some bytes))) → ReadsFile t (file (now a) path) 1048576 (Ok (Some bytes)) → Ended t (file_plan (now b) command (Some bytes)) b c result → Ended t (words_plan (now a) (Some (Run command))) a c result
   file_some c bytes result ends finds rest =
       let same = unchanged {T = Option (List ℕ)} (Ok (Some bytes)) ends in
-      ended_after t (file_plan (now b) command (Some bytes)) (words_plan (now a) (Some command)) a b c result same
+      ended_after t (file_plan (now b) command (Some bytes)) (words_plan (now a) (Some (Run command))) a b c result same
       (fails_file {T = Option (List ℕ)} t a b path (Ok (Some bytes)) ends)
       (λ told. ap (λ (w : World). file_plan w command (Some bytes)) (now_unchanged t a b same told) ∙ found (Some bytes) (finds.found told).0)
       rest
 
-  pub file_none : (result : Result Report NoMemory) → (IsTrue t → FileEnds {T = Option (List ℕ)} a b path (Ok None)) → ReadsFile t (file (now a) path) 1048576 (Ok None) → IfOk result (λ r. r ≡ failed command end.NoConfig) → Ended t (words_plan (now a) (Some command)) a b result
+  pub file_none : (result : Result Report NoMemory) → (IsTrue t → FileEnds {T = Option (List ℕ)} a b path (Ok None)) → ReadsFile t (file (now a) path) 1048576 (Ok None) → IfOk result (λ r. r ≡ failed command end.NoConfig) → Ended t (words_plan (now a) (Some (Run command))) a b result
   file_none result ends finds says =
-      ended_after t (Stay (failed command end.NoConfig)) (words_plan (now a) (Some command)) a b b result
+      ended_after t (Stay (failed command end.NoConfig)) (words_plan (now a) (Some (Run command))) a b b result
       (unchanged {T = Option (List ℕ)} (Ok None) ends)
       (fails_file {T = Option (List ℕ)} t a b path (Ok None) ends)
       (λ told. found None (finds.found told))
       (ended_here t (failed command end.NoConfig) b result says)
 
-  pub file_long : (n : ℕ) (result : Result Report NoMemory) → (IsTrue t → FileEnds {T = Option (List ℕ)} a b path (Err (read.TooLong n))) → ReadsFile t (file (now a) path) 1048576 (Err (read.TooLong n)) → IfOk result (λ r. r ≡ failed command (end.BadConfig (bad.Key (key.TooLong n)))) → Ended t (words_plan (now a) (Some command)) a b result
+  pub file_long : (n : ℕ) (result : Result Report NoMemory) → (IsTrue t → FileEnds {T = Option (List ℕ)} a b path (Err (read.TooLong n))) → ReadsFile t (file (now a) path) 1048576 (Err (read.TooLong n)) → IfOk result (λ r. r ≡ failed command (end.BadConfig (bad.Key (key.TooLong n)))) → Ended t (words_plan (now a) (Some (Run command))) a b result
   file_long n result ends finds says =
-      ended_after t (Stay (failed command (end.BadConfig (bad.Key (key.TooLong n))))) (words_plan (now a) (Some command)) a b b result
+      ended_after t (Stay (failed command (end.BadConfig (bad.Key (key.TooLong n))))) (words_plan (now a) (Some (Run command))) a b b result
       (unchanged {T = Option (List ℕ)} (Err (read.TooLong n)) ends)
       (fails_file {T = Option (List ℕ)} t a b path (Err (read.TooLong n)) ends)
       (λ told.
@@ -168,16 +178,16 @@ module _ (t : Bool) (command : Command) (path : List ℕ) (is : path ≡ conf_pa
       ∙ found (Some f.0) f.1)
       (ended_here t (failed command (end.BadConfig (bad.Key (key.TooLong n)))) b result says)
 
-  pub file_failed : (result : Result Report NoMemory) → (IsTrue t → FileEnds {T = Option (List ℕ)} a b path (Err read.Failed)) → IfOk result (λ r. r ≡ outside fault.Read) → Ended t (words_plan (now a) (Some command)) a b result
+  pub file_failed : (result : Result Report NoMemory) → (IsTrue t → FileEnds {T = Option (List ℕ)} a b path (Err read.Failed)) → IfOk result (λ r. r ≡ outside fault.Read) → Ended t (words_plan (now a) (Some (Run command))) a b result
   file_failed result ends says =
-      ended_failed t (words_plan (now a) (Some command)) a b fault.Read result
+      ended_failed t (words_plan (now a) (Some (Run command))) a b fault.Read result
       (unchanged {T = Option (List ℕ)} (Err read.Failed) ends)
       (fails_file {T = Option (List ℕ)} t a b path (Err read.Failed) ends)
       says
 
-  pub file_memory : (memory : NoMemory) → (IsTrue t → FileEnds {T = Option (List ℕ)} a b path (Err read.NoMemory)) → Ended t (words_plan (now a) (Some command)) a b (Err memory)
+  pub file_memory : (memory : NoMemory) → (IsTrue t → FileEnds {T = Option (List ℕ)} a b path (Err read.NoMemory)) → Ended t (words_plan (now a) (Some (Run command))) a b (Err memory)
   file_memory memory ends =
-      ended_memory t (words_plan (now a) (Some command)) a b memory (keeps_unchanged t (words_plan (now a) (Some command)) a b (unchanged {T = Option (List ℕ)} (Err read.NoMemory) ends))
+      ended_memory t (words_plan (now a) (Some (Run command))) a b memory (keeps_unchanged t (words_plan (now a) (Some (Run command))) a b (unchanged {T = Option (List ℕ)} (Err read.NoMemory) ends))
 
 -- the program
 done_none : (plan : Plan) (o : Option Fault) (report : Report) → report ≡ report_of plan o → report.outcome ≡ end.Done → o ≡ None
@@ -188,8 +198,8 @@ done_none plan (Some kind) report is done =
     outside_done : (kind : Fault) → end.Outside kind ≡ end.Done → ⊥
     outside_done kind e = cc
 
-pub finished_report : (t : Bool) (command : Option Command) (plan : Plan) (a b : Past) (o o' e e' : Shown) (report : Report) (told : Bool) → Ended t plan a b (Ok report) → Speaks command report → Told o o' e e' report.out report.err told → Finished t command plan a b o o' e e' (record { outcome = report.outcome; told = told })
-finished_report t command plan a b o o' e e' report told ended spoken says = record {
+pub finished_report : (t : Bool) (asked : Option Asked) (plan : Plan) (a b : Past) (o o' e e' : Shown) (report : Report) (told : Bool) → Ended t plan a b (Ok report) → Speaks asked report → Told o o' e e' report.out report.err told → Finished t asked plan a b o o' e e' (record { outcome = report.outcome; told = told })
+finished_report t asked plan a b o o' e e' report told ended spoken says = record {
   report = report;
   outcome = refl;
   told = says;
@@ -200,8 +210,8 @@ finished_report t command plan a b o o' e e' report told ended spoken says = rec
   left = λ tells done. ended.left tells (done_none plan (failed_since a b) report (ended.reported tells) done);
 }
 
-pub finished_memory : (t : Bool) (command : Option Command) (plan : Plan) (a b : Past) (o o' e e' : Shown) (memory : NoMemory) (told : Bool) → Ended t plan a b (Err memory) → Told o o' e e' memory_report.out memory_report.err told → Finished t command plan a b o o' e e' (record { outcome = end.NoMemory; told = told })
-finished_memory t command plan a b o o' e e' memory told ended says = record {
+pub finished_memory : (t : Bool) (asked : Option Asked) (plan : Plan) (a b : Past) (o o' e e' : Shown) (memory : NoMemory) (told : Bool) → Ended t plan a b (Err memory) → Told o o' e e' memory_report.out memory_report.err told → Finished t asked plan a b o o' e e' (record { outcome = end.NoMemory; told = told })
+finished_memory t asked plan a b o o' e e' memory told ended says = record {
   report = memory_report;
   outcome = refl;
   told = says;
@@ -216,21 +226,22 @@ finished_memory t command plan a b o o' e e' memory told ended says = record {
     memory_done e = cc
 
 -- no count rose
-quiet_none : (plan : Plan) (o : Option Fault) (report : Report) (outcome : Outcome) (command : Option Command) (f f' : ℕ) → report ≡ report_of plan o → outcome ≡ report.outcome → Caused command f f' outcome → (Rose f f' → ⊥) → o ≡ None
-quiet_none plan None report outcome command f f' is same cause quiet = refl
-quiet_none plan (Some kind) report outcome command f f' is same cause quiet =
+quiet_none : (plan : Plan) (o : Option Fault) (report : Report) (outcome : Outcome) (asked : Option Asked) (f f' : ℕ) → report ≡ report_of plan o → outcome ≡ report.outcome → Caused asked f f' outcome → (Rose f f' → ⊥) → o ≡ None
+quiet_none plan None report outcome asked f f' is same cause quiet = refl
+quiet_none plan (Some kind) report outcome asked f f' is same cause quiet =
     let e : outcome ≡ end.Outside kind = same ∙ ap (λ (r : Report). r.outcome) (is ∙ report_outside plan kind) in
-    absurd (no_fault command (subst (λ (x : Outcome). Caused command f f' x) e cause))
+    absurd (no_fault asked (subst (λ (x : Outcome). Caused asked f f' x) e cause))
   where
-    no_fault : (command : Option Command) → Caused command f f' (end.Outside kind) → ⊥
-    no_fault (Some command) h = quiet h
+    no_fault : (asked : Option Asked) → Caused asked f f' (end.Outside kind) → ⊥
+    no_fault (Some (Run command)) h = quiet h
+    no_fault (Some Help) h = h
     no_fault None h = h
 
-pub complete : (t : Bool) (plan : Plan) (a b : Past) (o o' e e' : Shown) (finish : Finish) (command : Option Command) (f f' : ℕ) → Finished t command plan a b o o' e e' finish → Caused command f f' finish.outcome → Complete t plan f f' finish.outcome
-complete t plan a b o o' e e' finish command f f' finished cause = λ told quiet.
+pub complete : (t : Bool) (plan : Plan) (a b : Past) (o o' e e' : Shown) (finish : Finish) (asked : Option Asked) (f f' : ℕ) → Finished t asked plan a b o o' e e' finish → Caused asked f f' finish.outcome → Complete t plan f f' finish.outcome
+complete t plan a b o o' e e' finish asked f f' finished cause = λ told quiet.
     ⊎_elim
     (λ m. inl (finished.outcome ∙ ap (λ (r : Report). r.outcome) m))
     (λ is.
-    let none = quiet_none plan (failed_since a b) finished.report finish.outcome command f f' is finished.outcome cause quiet in
+    let none = quiet_none plan (failed_since a b) finished.report finish.outcome asked f f' is finished.outcome cause quiet in
     inr (finished.outcome ∙ ap (λ (r : Report). r.outcome) is ∙ ap (λ (k : Option Fault). (report_of plan k).outcome) none))
     (finished.reported told)

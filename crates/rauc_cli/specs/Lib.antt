@@ -3,4 +3,3 @@ pub mod Ends
 pub mod Lines
 pub mod Plans
 pub mod Slots
-pub mod Words

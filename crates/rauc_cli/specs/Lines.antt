@@ -7,8 +7,9 @@ use Rattle.keyfile.specs.declared.fault.KeyFault.{KeyFault}
 use Rattle.keyfile.specs.declared.fault.KeyFault.TheVariants as key
 use Rattle.raw_writer.specs.declared.check.PutRefusal.{PutRefusal}
 use Rattle.raw_writer.specs.declared.check.PutRefusal.TheVariants as put
-use Rattle.rauc_cli.specs.declared.command.Command.{Command}
-use Rattle.rauc_cli.specs.declared.command.Command.TheVariants as command
+use Rattle.rauc_words.specs.declared.asked.Command.{Command}
+use Rattle.rauc_words.specs.declared.asked.Command.TheVariants as command
+use Rattle.rauc_words.specs.Table.{conf_path}
 use Rattle.rauc_cli.specs.declared.conf.BadConf.{BadConf}
 use Rattle.rauc_cli.specs.declared.conf.BadConf.TheVariants as bad
 use Rattle.system_conf.specs.declared.conf_refusal.ConfRefusal.{ConfRefusal}
@@ -18,12 +19,12 @@ use Rattle.rauc_cli.specs.declared.outcome.SlotRefusal.TheVariants as slot
 use Rattle.rauc_cli.specs.declared.outcome.Outcome.{Outcome}
 use Rattle.rauc_cli.specs.declared.outcome.Outcome.TheVariants as end
 use Rattle.rauc_cli.specs.declared.outcome.Report.{Report}
-use Rattle.rauc_cli.specs.Words.{conf_path}
 
--- the exit status: 0 done, 1 refused, 2 a fault of the outside or not all told, 3 want of memory
+-- the exit status: 0 done or help, 1 refused, 2 a fault of the outside or not all told, 3 want of memory
 abbrev pub status_of : Outcome → Bool → ℕ
 status_of outcome false = 2
 status_of end.Done true = 0
+status_of end.Help true = 0
 status_of (end.Outside kind) true = 2
 status_of end.NoMemory true = 3
 status_of outcome true = 1
@@ -50,7 +51,7 @@ fault_word fault.Clock = codes "clock"
 
 -- the path of the command's image
 abbrev pub image_path : Command → List ℕ
-image_path (command.WriteSlot conf slot image) = image
+image_path (command.WriteSlot place slot image) = image
 
 -- what is wrong with a key file
 abbrev pub key_cause : KeyFault → List ℕ
@@ -100,6 +101,7 @@ slot_cause image (slot.Image refusal) = put_cause image refusal
 -- the cause of an end of the command
 abbrev pub cause_of : Command → Outcome → List ℕ
 cause_of command end.Done = []
+cause_of command end.Help = []
 cause_of command end.Usage = codes "bad usage, see rauc --help"
 cause_of command end.NoConfig = codes "no configuration " ++ conf_path command
 cause_of command (end.BadConfig refusal) = conf_cause refusal
@@ -118,6 +120,10 @@ failing outcome cause = record { outcome = outcome; out = []; err = error_line c
 -- the report of a command that did not do its work
 abbrev pub failed : Command → Outcome → Report
 failed command outcome = failing outcome (cause_of command outcome)
+
+-- the report of help
+abbrev pub help_report : Report
+help_report = record { outcome = end.Help; out = codes "usage: rauc [-c FILE] [--override-boot-slot=NAME] COMMAND\ncommands: install BUNDLE, info BUNDLE, status [ACTION [SLOT]], write-slot SLOT IMAGE, service\n"; err = [] }
 
 -- the reports that every command may end with: a machine call that failed, want of memory, words that are no command
 abbrev pub outside : Fault → Report

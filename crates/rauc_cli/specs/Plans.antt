@@ -6,18 +6,20 @@ use Rattle.machine.specs.World.{file, disk_length, disk_byte}
 use Rattle.machine.specs.Crash.{is_in}
 use Rattle.machine.specs.Frames.{OnlyIn}
 use Rattle.raw_writer.specs.Whole.{IsWritten}
-use Rattle.rauc_cli.specs.declared.command.Command.{Command}
-use Rattle.rauc_cli.specs.declared.command.Command.TheVariants.{WriteSlot}
+use Rattle.rauc_words.specs.declared.asked.Asked.{Asked}
+use Rattle.rauc_words.specs.declared.asked.Asked.TheVariants.{Help, Run}
+use Rattle.rauc_words.specs.declared.asked.Command.{Command}
+use Rattle.rauc_words.specs.declared.asked.Command.TheVariants.{WriteSlot}
+use Rattle.rauc_words.specs.Table.{command_of, conf_path}
 use Rattle.system_conf.specs.Refusals.{Configuration}
 use Rattle.rauc_cli.specs.declared.conf.BadConf.{BadConf}
 use Rattle.rauc_cli.specs.declared.outcome.SlotRefusal.{SlotRefusal}
 use Rattle.rauc_cli.specs.declared.outcome.SlotWritten.{SlotWritten}
 use Rattle.rauc_cli.specs.declared.outcome.Outcome.TheVariants as end
 use Rattle.rauc_cli.specs.declared.outcome.Report.{Report}
-use Rattle.rauc_cli.specs.Words.{command_of, conf_path}
 use Rattle.rauc_cli.specs.Conf.{conf_of}
 use Rattle.rauc_cli.specs.Slots.{piece, slot_answer, slot_device}
-use Rattle.rauc_cli.specs.Lines.{failed, outside, usage_report, written_report}
+use Rattle.rauc_cli.specs.Lines.{failed, help_report, outside, usage_report, written_report}
 
 -- a plan: to change nothing, and to report this; or to write an image to the front of a slot's device
 pub data Plan : Type 0 where
@@ -31,8 +33,8 @@ slot_plan command slot image device (Err refusal) = Stay (failed command (end.Sl
 
 -- each command, with its configuration
 abbrev pub command_plan : World → Configuration → Command → Plan
-command_plan w system (WriteSlot conf slot image) =
-    slot_plan (WriteSlot conf slot image) slot image (slot_device system.slots slot) (slot_answer system.slots slot image w)
+command_plan w system (WriteSlot place slot image) =
+    slot_plan (WriteSlot place slot image) slot image (slot_device system.slots slot) (slot_answer system.slots slot image w)
 
 abbrev pub conf_plan : World → Command → Result Configuration BadConf → Plan
 conf_plan w command (Ok system) = command_plan w system command
@@ -42,11 +44,12 @@ abbrev pub file_plan : World → Command → Option (List ℕ) → Plan
 file_plan w command None = Stay (failed command end.NoConfig)
 file_plan w command (Some bytes) = conf_plan w command (conf_of bytes)
 
-abbrev pub words_plan : World → Option Command → Plan
+abbrev pub words_plan : World → Option Asked → Plan
 words_plan w None = Stay usage_report
-words_plan w (Some command) = file_plan w command (file w (conf_path command))
+words_plan w (Some Help) = Stay help_report
+words_plan w (Some (Run command)) = file_plan w command (file w (conf_path command))
 
--- the plan: words that are a command, then its configuration's file, then what that says, then the command
+-- the plan: words that ask for something, and of a command its configuration's file, then what that says, then the command
 abbrev pub plan_of : List (List ℕ) → World → Plan
 plan_of words w = words_plan w (command_of words)
 

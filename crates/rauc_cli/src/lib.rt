@@ -1,16 +1,15 @@
 //! The command `rauc`: what its words ask for, what it does, and what it reports.
 #![tactic(auto)]
 
-mod command;
 mod conf;
 mod lines;
 mod outcome;
 mod run;
 mod slots;
 
-pub use command::{Command, read_words};
 pub use conf::{BadConf, read_conf};
 pub use outcome::{Finish, Outcome, SlotRefusal, SlotWritten};
+pub use rauc_words::{Asked, Command, Place, read_words};
 pub use run::rauc;
 pub use slots::write_slot;
 

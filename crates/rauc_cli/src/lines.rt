@@ -1,6 +1,7 @@
 ghost use Rattle.std.specs.Prelude.{◌≡◌, ◌++◌, IfOk, Some, codes, string_bytes};
-ghost use Rattle.rauc_cli.specs.Lines.{cause_of, conf_cause, failed, failing, fault_word, image_path, key_cause, place_cause, put_cause, refusal_cause, slot_cause, written_head, written_line, written_report};
+ghost use Rattle.rauc_cli.specs.Lines.{cause_of, conf_cause, failed, failing, fault_word, help_report, image_path, key_cause, place_cause, put_cause, refusal_cause, slot_cause, written_head, written_line, written_report};
 ghost use Rattle.rauc_cli.specs.Ends.{IsFailure, Speaks};
+ghost use Rattle.rauc_words.specs.declared.asked.Asked.TheVariants.{Run};
 
 use crate::outcome::Report;
 use crate::{BadConf, Command, Outcome, SlotRefusal};
@@ -9,6 +10,21 @@ use raw_writer::PutRefusal;
 use std::alloc::{AllocError, Global};
 use system_conf::ConfRefusal;
 use updater_text::{Digest, Fault, NoMemory, Text};
+
+/// What `--help` prints.
+const HELP: &str =
+    "usage: rauc [-c FILE] [--override-boot-slot=NAME] COMMAND\ncommands: install BUNDLE, info BUNDLE, status [ACTION [SLOT]], write-slot SLOT IMAGE, service\n";
+
+/// The report of help.
+pub fn help_report(alloc: Global) -> Result<Report, NoMemory>
+    ensures { IfOk result (λ r. r ≡ help_report) }
+{
+    Ok(Report {
+        outcome: Outcome::Help,
+        out: Text::new(alloc, HELP)?,
+        err: Text::empty(alloc),
+    })
+}
 
 // The line of a slot that was written, up to the digest.
 fn written_head(alloc: Global, slot: &str, size: u64) -> Result<String, AllocError>
@@ -208,7 +224,7 @@ fn cause(alloc: Global, command: &Command, outcome: &Outcome) -> Result<String, 
     ensures { IfOk result (λ t. string_bytes t ≡ cause_of command.now outcome.now) }
 {
     match outcome {
-        Outcome::Done => Ok(String::new(alloc)),
+        Outcome::Done | Outcome::Help => Ok(String::new(alloc)),
         Outcome::Usage => String::from_str(alloc, "bad usage, see rauc --help"),
         Outcome::NoConfig => {
             let path = command.conf();
@@ -239,7 +255,7 @@ pub fn failing(alloc: Global, outcome: Outcome, cause: &str) -> Result<Report, N
 /// The report of a command that did not do its work.
 pub fn failed(alloc: Global, command: &Command, outcome: Outcome) -> Result<Report, NoMemory>
     ensures report { IfOk result (λ r. r ≡ failed command.now outcome) }
-    ensures spoken { IsFailure outcome → IfOk result (Speaks (Some command.now)) }
+    ensures spoken { IsFailure outcome → IfOk result (Speaks (Some (Run command.now))) }
 {
     let cause = cause(alloc, command, &outcome)?;
     failing(alloc, outcome, cause.as_str())

@@ -28,6 +28,8 @@ pub struct SlotWritten {
 pub enum Outcome {
     /// The command did its work.
     Done,
+    /// The words ask for help.
+    Help,
     /// The words are no command.
     Usage,
     /// The configuration file is not there.
@@ -58,7 +60,7 @@ pub struct Finish {
 }
 
 impl Finish {
-    /// The exit status: 0 where the work was done; 1 for a refusal; 2 where the outside failed, also
+    /// The exit status: 0 where the work was done or help was asked for; 1 for a refusal; 2 where the outside failed, also
     /// where not all could be told; 3 for want of memory. It takes no memory.
     pub fn status(&self) -> u8
         ensures { result ≡ status_of self.now.outcome self.now.told }
@@ -67,7 +69,7 @@ impl Finish {
             return 2;
         }
         match &self.outcome {
-            Outcome::Done => 0,
+            Outcome::Done | Outcome::Help => 0,
             Outcome::Outside(_) => 2,
             Outcome::NoMemory => 3,
             _ => 1,

@@ -1,14 +1,17 @@
 ghost use Rattle.std.specs.Prelude.{◌≤◌, ℕ, List, IfOk, Some};
 ghost use Rattle.machine.specs.Past.{now};
 ghost use Rattle.system_conf.specs.Reads.{shown};
-ghost use Rattle.rauc_cli.specs.Words.{command_of};
+ghost use Rattle.rauc_words.specs.Table.{command_of};
+ghost use Rattle.rauc_words.specs.declared.asked.Asked.TheVariants.{Run};
 ghost use Rattle.rauc_cli.specs.Slots.{slot_answer, slot_device};
 ghost use Rattle.rauc_cli.specs.Plans.{command_plan, file_plan, plan_of, slot_plan, words_plan};
 ghost use Rattle.rauc_cli.specs.Ends.{Caused, Complete, Ended, Finished, Names, SlotSays, Speaks, outcome_in};
 
-use crate::lines::{failed, failing, written_report};
+use crate::lines::{failed, failing, help_report, written_report};
 use crate::outcome::{Report, SlotWritten};
-use crate::{BadConf, Command, Finish, Outcome, SlotRefusal, read_conf, read_words, write_slot};
+use crate::{
+    Asked, BadConf, Command, Finish, Outcome, SlotRefusal, read_conf, read_words, write_slot,
+};
 use keyfile::KeyFault;
 use machine::{Machine, ReadStop};
 use std::alloc::Global;
@@ -26,7 +29,7 @@ fn slot_report(
     written: Result<SlotWritten, Stop<SlotRefusal>>,
 ) -> Result<Report, NoMemory>
     ensures says { SlotSays command.now slot.now written result }
-    ensures spoken { (image : List ℕ) → Names command.now slot.now image → IfOk result (Speaks (Some command.now)) }
+    ensures spoken { (image : List ℕ) → Names command.now slot.now image → IfOk result (Speaks (Some (Run command.now))) }
 {
     match written {
         Ok(written) => written_report(alloc, slot, written.size, &written.digest),
@@ -46,8 +49,8 @@ fn run_write_slot<M: Machine>(
 ) -> Result<Report, NoMemory>
     requires { Names command.now slot.now image.now }
     ensures ended { Ended M.tells (slot_plan command.now slot.now image.now (slot_device system.now.slots slot.now) (slot_answer system.now.slots slot.now image.now (now (M.past m.old)))) (M.past m.old) (M.past m.new) result }
-    ensures spoken { IfOk result (Speaks (Some command.now)) }
-    ensures cause { Caused (Some command.now) (M.faults m.old) (M.faults m.new) (outcome_in result) }
+    ensures spoken { IfOk result (Speaks (Some (Run command.now))) }
+    ensures cause { Caused (Some (Run command.now)) (M.faults m.old) (M.faults m.new) (outcome_in result) }
     ensures wants { M.wants m.old ≤ M.wants m.new }
 {
     let written = write_slot(alloc, m, system, slot, image);
@@ -62,8 +65,8 @@ fn run_command<M: Machine>(
     system: &System,
 ) -> Result<Report, NoMemory>
     ensures ended { Ended M.tells (command_plan (now (M.past m.old)) (shown system.now) command.now) (M.past m.old) (M.past m.new) result }
-    ensures spoken { IfOk result (Speaks (Some command.now)) }
-    ensures cause { Caused (Some command.now) (M.faults m.old) (M.faults m.new) (outcome_in result) }
+    ensures spoken { IfOk result (Speaks (Some (Run command.now))) }
+    ensures cause { Caused (Some (Run command.now)) (M.faults m.old) (M.faults m.new) (outcome_in result) }
     ensures wants { M.wants m.old ≤ M.wants m.new }
 {
     match command {
@@ -81,8 +84,8 @@ fn run_conf<M: Machine>(
     bytes: &[u8],
 ) -> Result<Report, NoMemory>
     ensures ended { Ended M.tells (file_plan (now (M.past m.old)) command.now (Some bytes.now)) (M.past m.old) (M.past m.new) result }
-    ensures spoken { IfOk result (Speaks (Some command.now)) }
-    ensures cause { Caused (Some command.now) (M.faults m.old) (M.faults m.new) (outcome_in result) }
+    ensures spoken { IfOk result (Speaks (Some (Run command.now))) }
+    ensures cause { Caused (Some (Run command.now)) (M.faults m.old) (M.faults m.new) (outcome_in result) }
     ensures wants { M.wants m.old ≤ M.wants m.new }
 {
     match read_conf(alloc, bytes) {
@@ -94,9 +97,9 @@ fn run_conf<M: Machine>(
 
 // Reads the file of a command's configuration, and goes on with its bytes.
 fn run_file<M: Machine>(alloc: Global, m: &mut M, command: &Command) -> Result<Report, NoMemory>
-    ensures ended { Ended M.tells (words_plan (now (M.past m.old)) (Some command.now)) (M.past m.old) (M.past m.new) result }
-    ensures spoken { IfOk result (Speaks (Some command.now)) }
-    ensures cause { Caused (Some command.now) (M.faults m.old) (M.faults m.new) (outcome_in result) }
+    ensures ended { Ended M.tells (words_plan (now (M.past m.old)) (Some (Run command.now))) (M.past m.old) (M.past m.new) result }
+    ensures spoken { IfOk result (Speaks (Some (Run command.now))) }
+    ensures cause { Caused (Some (Run command.now)) (M.faults m.old) (M.faults m.new) (outcome_in result) }
     ensures wants { M.wants m.old ≤ M.wants m.new }
 {
     match m.file_read(alloc, command.conf(), CONF_LIMIT) {
@@ -119,7 +122,8 @@ fn run<M: Machine>(alloc: Global, m: &mut M, words: &[Text]) -> Result<Report, N
     ensures wants { M.wants m.old ≤ M.wants m.new }
 {
     match read_words(alloc, words) {
-        Ok(Some(command)) => run_file(alloc, m, &command),
+        Ok(Some(Asked::Run(command))) => run_file(alloc, m, &command),
+        Ok(Some(Asked::Help)) => help_report(alloc),
         Ok(None) => failing(alloc, Outcome::Usage, "bad usage, see rauc --help"),
         Err(stop) => Err(stop),
     }

@@ -1,0 +1,70 @@
+# Completion of the words of `rauc` in bash. Source this file, or put it where bash looks for such
+# files, as /usr/share/bash-completion/completions/rauc.
+
+# The slots of a configuration, and the names that its boot loader has for them.
+_rauc_slots() {
+  sed -n 's/^[[:blank:]]*\[slot\.\([^][]*\)\][[:blank:]]*$/\1/p' "$1" 2> /dev/null
+}
+
+_rauc_bootnames() {
+  sed -n 's/^[[:blank:]]*bootname[[:blank:]]*=[[:blank:]]*//p' "$1" 2> /dev/null
+}
+
+# _rauc_offer WORD..: those that begin with the word at hand.
+_rauc_offer() {
+  local offered
+  for offered in "$@"; do
+    [[ $offered == "$word"* ]] && COMPREPLY+=("$offered")
+  done
+}
+
+_rauc_files() {
+  compopt -o filenames 2> /dev/null
+  mapfile -t COMPREPLY < <(compgen -f -- "$word")
+}
+
+_rauc() {
+  local word=${COMP_WORDS[COMP_CWORD]} conf=/etc/rauc/system.conf
+  local given i wants='' options=yes positionals=() names
+  COMPREPLY=()
+  for ((i = 1; i < COMP_CWORD; i++)); do
+    given=${COMP_WORDS[i]}
+    # Bash cuts `--conf=FILE` at its `=`, which stands as a word of its own.
+    if [ -n "$wants" ]; then
+      [ "$given" = = ] && continue
+      [ "$wants" = conf ] && conf=$given
+      wants=''
+    elif [ -z "$options" ]; then
+      positionals+=("$given")
+    else
+      case $given in
+        --) options='' ;;
+        -c | --conf) wants=conf ;;
+        --override-boot-slot) wants=booted ;;
+        --conf=*) conf=${given#--conf=} ;;
+        -c*) conf=${given#-c} conf=${conf#=} ;;
+        -?*) ;;
+        *) positionals+=("$given") ;;
+      esac
+    fi
+  done
+  [ -n "$wants" ] && [ "$word" = = ] && word=''
+
+  if [ "$wants" = conf ]; then
+    _rauc_files
+  elif [ "$wants" = booted ]; then
+    mapfile -t names < <(_rauc_bootnames "$conf" && _rauc_slots "$conf")
+    _rauc_offer "${names[@]}"
+  elif [ -n "$options" ] && [[ $word == -* ]]; then
+    _rauc_offer -c --conf --override-boot-slot -h --help
+  elif [ ${#positionals[@]} = 0 ]; then
+    _rauc_offer write-slot
+  elif [ "${positionals[0]}" = write-slot ] && [ ${#positionals[@]} = 1 ]; then
+    mapfile -t names < <(_rauc_slots "$conf")
+    _rauc_offer "${names[@]}"
+  elif [ "${positionals[0]}" = write-slot ] && [ ${#positionals[@]} = 2 ]; then
+    _rauc_files
+  fi
+}
+
+complete -F _rauc rauc

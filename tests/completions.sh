@@ -1,0 +1,80 @@
+#!/usr/bin/env bash
+# Completes words of `rauc` in bash and compares what is offered. Needs bash and sed. Its last line
+# counts the cases.
+set -u
+cd "$(dirname "$0")/.." || exit 2
+. completions/rauc.bash || exit 1
+mkdir -p build
+scratch=$(mktemp -d build/completions.XXXXXX)
+trap 'rm -rf "$OLDPWD/$scratch"' EXIT
+cd "$scratch" || exit 2
+passed=0
+failed=0
+
+cat > c << CONF
+[system]
+compatible=Test
+bootloader=grub
+
+[slot.rootfs.0]
+device=/dev/a
+bootname=A
+
+[slot.rootfs.1]
+device=/dev/b
+bootname=B
+CONF
+cp c other.conf
+printf '[slot.data.0]\nbootname=$(touch/run)\n' >> other.conf
+: > system.img
+: > 'a name with blanks.img'
+
+# offers OFFERED WORDS..: where the last of the words is at hand, exactly these lines are offered.
+offers() {
+  local wanted=$1 offered
+  shift
+  COMP_WORDS=(rauc "$@")
+  COMP_CWORD=$#
+  _rauc
+  offered=$(printf '%s\n' "${COMPREPLY[@]}")
+  if [ "$offered" = "$wanted" ]; then
+    passed=$((passed + 1))
+  else
+    failed=$((failed + 1))
+    printf 'failed: rauc %s\n  wanted: %s\n  got:    %s\n' "$*" "$wanted" "$offered"
+  fi
+}
+
+offers write-slot ''
+offers write-slot wri
+offers '' install
+offers $'-c\n--conf\n--override-boot-slot\n-h\n--help' -
+offers $'--conf' --c
+offers --override-boot-slot write-slot --o
+offers c -c c
+offers other.conf --conf oth
+offers other.conf --conf = oth
+offers $'a name with blanks.img' -c a
+offers $'rootfs.0\nrootfs.1' -c c write-slot ''
+offers $'rootfs.0\nrootfs.1' write-slot -cc ro
+offers data.0 write-slot --conf = other.conf d
+offers data.0 --conf other.conf write-slot d
+offers $'rootfs.0\nrootfs.1' -c c --override-boot-slot = A write-slot ''
+offers $'A\nB\nrootfs.0\nrootfs.1' -c c --override-boot-slot =
+offers B -c c --override-boot-slot = B
+offers '$(touch/run)' -c other.conf --override-boot-slot = '$'
+offers system.img -c c write-slot rootfs.1 sys
+offers 'a name with blanks.img' -c c write-slot rootfs.1 'a name'
+offers '' -c c write-slot rootfs.1 system.img ''
+offers '' -c nothing write-slot ''
+offers '' -- -
+offers write-slot -- ''
+if [ "$(complete -p rauc)" = 'complete -F _rauc rauc' ]; then
+  passed=$((passed + 1))
+else
+  failed=$((failed + 1))
+  echo 'failed: the function is not set for rauc'
+fi
+
+printf '%s passed, %s failed\n' "$passed" "$failed"
+[ "$failed" = 0 ]
