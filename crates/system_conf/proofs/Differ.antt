@@ -12,7 +12,7 @@ use Rattle.system_conf.specs.Slots.{slots_of, slot_of}
 use Rattle.system_conf.specs.declared.slot.Slot.{Slot}
 
 -- a slot's group is its name behind `slot.`
-group_is : (g : Text) → is_slot_group g ≡ true → g ≡ codes "slot." ++ name_of g
+pub group_is : (g : Text) → is_slot_group g ≡ true → g ≡ codes "slot." ++ name_of g
 group_is g h =
     let begins = (and_parts (starts_with nat_eq g (codes "slot.")) (is_class (class_of g) && is_some (index_in (index_of g))) h).0 in
     let front : take 5 g ≡ codes "slot." = sym ((bytes_eq-Decides (codes "slot.") (take 5 g)).0 begins) in
@@ -46,7 +46,7 @@ IsDistinct-names (g ∷ names) h =
       | false ↦ λ p. rest
     ] refl
 
-names_of : (groups : List Group) (names : List Text) → map (λ (s : Slot). s.name) (map (slot_of groups) names) ≡ map name_of names
+pub names_of : (groups : List Group) (names : List Text) → map (λ (s : Slot). s.name) (map (slot_of groups) names) ≡ map name_of names
 names_of groups [] = refl
 names_of groups (g ∷ names) = ap (λ (more : List Text). name_of g ∷ more) (names_of groups names)
 

@@ -13,6 +13,10 @@ pub or_else-None : {A : Type 0} (a : Option A) → or_else a None ≡ a
 or_else-None (Some x) = refl
 or_else-None None = refl
 
+pub both_none : {A : Type 0} (a b : Option A) → or_else a b ≡ None → (a ≡ None) × (b ≡ None)
+both_none (Some x) b h = absurd (cc)
+both_none None b h = (refl, h)
+
 pub first_of-append : {A B : Type 0} (f : A → Option B) (xs ys : List A) → first_of f (xs ++ ys) ≡ or_else (first_of f xs) (first_of f ys)
 first_of-append f [] ys = refl
 first_of-append f (x ∷ xs) ys = ap (or_else (f x)) (first_of-append f xs ys) ∙ sym (or_else_assoc (f x) (first_of f xs) (first_of f ys))

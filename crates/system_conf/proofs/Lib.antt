@@ -1,3 +1,4 @@
+mod Apart
 mod Cases
 pub mod Chains
 mod Differ
@@ -7,5 +8,7 @@ mod Mandatory
 mod Names
 mod Numbered
 mod Rootless
+mod SlotForms
 mod SlotGroups
 mod Soundness
+mod WellFormed

@@ -20,13 +20,10 @@ use Rattle.system_conf.specs.declared.conf_refusal.ConfRefusal.TheVariants as re
 use Rattle.system_conf.specs.declared.slot.Slot.{Slot}
 use Rattle.system_conf.specs.declared.system.System.{System}
 use Rattle.system_conf.proofs.Chains.{chains_end, one_root}
+use Rattle.system_conf.proofs.FirstOf.{both_none}
 use Rattle.system_conf.proofs.Soundness.{parents_read}
 
 -- ---- what the row of cycles says
-
-both_none : {A : Type 0} (a b : Option A) → or_else a b ≡ None → (a ≡ None) × (b ≡ None)
-both_none (Some x) b h = absurd (cc)
-both_none None b h = (refl, h)
 
 ends_if : (b : Bool) (why : ConfRefusal) → cond b None (Some why) ≡ None → b ≡ true
 ends_if true why h = refl

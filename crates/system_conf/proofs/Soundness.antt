@@ -16,16 +16,16 @@ use Rattle.system_conf.specs.Refusals.{slot_rows, first_row, device_is_file, kep
 use Rattle.system_conf.specs.Sound.{parents_stand, are_unrefused}
 use Rattle.system_conf.specs.declared.slot.Slot.{Slot}
 
-left_none : {A : Type 0} (a b : Option A) → None ≡ or_else a b → a ≡ None
+pub left_none : {A : Type 0} (a b : Option A) → None ≡ or_else a b → a ≡ None
 left_none (Some x) b h = absurd (cc)
 left_none None b h = refl
 
-right_none : {A : Type 0} (a b : Option A) → None ≡ or_else a b → None ≡ b
+pub right_none : {A : Type 0} (a b : Option A) → None ≡ or_else a b → None ≡ b
 right_none (Some x) b h = absurd (cc)
 right_none None b h = h
 
 -- GRUB's file is that of the boot loader
-boot_file-boot_of : (groups : List Group) → boot_file (boot_of groups) ≡ grub_file_of groups
+pub boot_file-boot_of : (groups : List Group) → boot_file (boot_of groups) ≡ grub_file_of groups
 boot_file-boot_of groups =
     go (bytes_eq (loader_of groups) (codes "grub")) (bytes_eq (loader_of groups) (codes "uboot")) (bytes_eq (loader_of groups) (codes "barebox")) (bytes_eq (loader_of groups) (codes "efi")) (bytes_eq (loader_of groups) (codes "custom"))
   where

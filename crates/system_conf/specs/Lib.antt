@@ -1,3 +1,4 @@
+pub mod Formed
 pub mod Parents
 pub mod Places
 pub mod Reads

@@ -1,5 +1,5 @@
 -- The refusals of a configuration, each by what holds of the whole list of its groups, and the configuration where none holds.
-use Rattle.std.specs.Prelude.{ℕ, Bool, true, false, ◌&&◌, ◌||◌, not, nat_lt, List, [], ◌∷◌, ◌++◌, codes, length, take, map, Option, Some, None, is_some, is_none, option_map, unwrap_or, Result, Ok, Err, if◌then◌else◌}
+use Rattle.std.specs.Prelude.{ℕ, Bool, true, false, ◌&&◌, ◌||◌, not, nat_lt, List, [], ◌∷◌, ◌++◌, codes, length, take, map, Option, Some, None, is_some, is_none, option_map, Result, Ok, Err, if◌then◌else◌}
 use Rattle.std.specs.Option.{option_map_or}
 use Rattle.std.specs.List.{enumerate_from, list_any}
 use Rattle.std.specs.Str.{bytes_eq}
@@ -8,7 +8,7 @@ use Rattle.keyfile.specs.Groups.{Text, Entry, Group, get_in}
 use Rattle.conf_forms.specs.Lists.{first_of}
 use Rattle.conf_forms.specs.Forms.{fits, is_left_out, without_slash}
 use Rattle.conf_forms.specs.Keys.{is_kind, kind_of, form_of}
-use Rattle.system_conf.specs.Values.{loader_of, mount_prefix_of, data_directory_of, grub_file_of, central_file, status_file_of, handler_of, helpers_of, boot_of, boot_file, is_within, is_at, is_below, lies_under}
+use Rattle.system_conf.specs.Values.{compatible_of, loader_of, mount_prefix_of, data_directory_of, grub_file_of, central_file, status_file_of, handler_of, helpers_of, boot_of, boot_file, is_within, is_at, is_below, lies_under}
 use Rattle.conf_forms.specs.SlotNames.{name_of, is_slot_group, slot_groups, slot_names}
 use Rattle.system_conf.specs.Slots.{slot_called, slots_of, chain_ends}
 use Rattle.system_conf.specs.declared.conf_refusal.ConfRefusal.{ConfRefusal}
@@ -234,7 +234,7 @@ pub record Configuration : Type 0 where
 -- what the groups say, with the defaults
 unfoldable pub configuration : List Group → Configuration
 configuration groups = record {
-  compatible = unwrap_or (get_in groups (codes "system") (codes "compatible")) [];
+  compatible = compatible_of groups;
   boot = boot_of groups;
   mount_prefix = mount_prefix_of groups;
   status_file = status_file_of groups;

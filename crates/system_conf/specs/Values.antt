@@ -29,6 +29,10 @@ attempts_in groups key = unwrap_or (option_and_then attempts_of (get_in groups (
 abbrev pub loader_of : List Group → Text
 loader_of groups = unwrap_or (get_in groups (codes "system") (codes "bootloader")) []
 
+-- what the system is called
+abbrev pub compatible_of : List Group → Text
+compatible_of groups = unwrap_or (get_in groups (codes "system") (codes "compatible")) []
+
 abbrev pub mount_prefix_of : List Group → Text
 mount_prefix_of groups = without_slash (unwrap_or (value_of groups form.Directory (codes "system") (codes "mountprefix")) (codes "/mnt/rauc/"))
 

@@ -15,7 +15,8 @@ use crate::read_slots::read_slots;
 use crate::shared::{same_bootname, same_device};
 use crate::slot_rows::bad_slot_name;
 use crate::values::{
-    boot_of, data_directory_of, handler_of, helpers_of, mount_prefix_of, owned, status_file_of,
+    boot_of, compatible_of, data_directory_of, handler_of, helpers_of, mount_prefix_of, owned,
+    status_file_of,
 };
 use crate::{ConfRefusal, Slot, System};
 use conf_forms::{SlotGroup, slot_groups};
@@ -110,10 +111,11 @@ fn configured(alloc: Global, file: &KeyFile, slots: Items<Slot>) -> Result<Syste
     requires differ { IsDistinct bytes_eq (map (λ g. g.0) file.now) }
     requires read { slots ≡ slots_of file.now }
     requires unrefused { None ≡ spec.first_row (spec.slot_rows file.now slots) }
+    requires formed { None ≡ spec.first_row (spec.group_rows file.now) }
     ensures { IfOk result (λ system. shown system ≡ spec.configuration file.now) }
 {
     Ok(System {
-        compatible: Text::new(alloc, file.get("system", "compatible").unwrap_or(""))?,
+        compatible: Text::new(alloc, compatible_of(file))?,
         boot: boot_of(alloc, file)?,
         mount_prefix: Text::new(alloc, mount_prefix_of(file))?,
         status_file: status_file_of(alloc, file)?,

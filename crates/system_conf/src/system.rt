@@ -1,7 +1,8 @@
 ghost use Rattle.std.specs.Prelude.{◌≡◌, ◌++◌, [], IfOk, IsTrue, OnOk, filter_map, map, position};
 ghost use Rattle.std.proofs.Props.{props};
-ghost use Rattle.std.specs.List.{IsDistinct, cons_option};
+ghost use Rattle.std.specs.List.{IsDistinct, cons_option, list_all};
 ghost use Rattle.std.specs.Str.{bytes_eq};
+ghost use Rattle.system_conf.specs.Formed.{are_apart, are_formed, are_helpers_formed, is_boot_formed, is_slot_formed};
 ghost use Rattle.system_conf.specs.Sound.{are_unrefused, parents_stand};
 
 use crate::Slot;
@@ -40,6 +41,11 @@ pub struct System {
     pub ghost names_differ: { IsDistinct bytes_eq (map (λ s. s.name) slots) } by { Prim.hlevel props },
     pub ghost parents_stand: { IsTrue (parents_stand slots) },
     pub ghost unrefused: { IsTrue (are_unrefused boot mount_prefix status_file data_directory slots) },
+    pub ghost formed: { IsTrue (are_formed compatible mount_prefix status_file data_directory pre_install post_install) },
+    pub ghost boot_formed: { IsTrue (is_boot_formed boot) },
+    pub ghost helpers_formed: { IsTrue (are_helpers_formed helpers) },
+    pub ghost slots_formed: { IsTrue (list_all is_slot_formed slots) },
+    pub ghost apart: { IsTrue (are_apart boot mount_prefix status_file data_directory slots) },
 }
 
 impl System {

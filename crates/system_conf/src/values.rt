@@ -39,6 +39,13 @@ fn attempts_in(file: &KeyFile, key: &str) -> u8
     }
 }
 
+/// What the system is called.
+pub fn compatible_of(file: &KeyFile) -> &str
+    ensures { result.now ≡ spec.compatible_of file.entry.now }
+{
+    file.get("system", "compatible").unwrap_or("")
+}
+
 /// The directory below which bundles are mounted.
 pub fn mount_prefix_of(file: &KeyFile) -> &str
     ensures { result.now ≡ spec.mount_prefix_of file.entry.now }
