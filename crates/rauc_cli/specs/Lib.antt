@@ -1,3 +1,4 @@
+pub mod Archives
 pub mod Conf
 pub mod Ends
 pub mod Lines

@@ -49,6 +49,10 @@ fault_word fault.Replace = codes "replace"
 fault_word fault.Run = codes "run"
 fault_word fault.Clock = codes "clock"
 
+-- the name of the command's slot
+abbrev pub slot_name : Command → List ℕ
+slot_name (command.WriteSlot place slot image) = slot
+
 -- the path of the command's image
 abbrev pub image_path : Command → List ℕ
 image_path (command.WriteSlot place slot image) = image
@@ -93,10 +97,13 @@ put_cause image (put.NoDevice path) = codes "no device " ++ path
 put_cause image (put.ImageSize stated found) = codes "image " ++ (image ++ (codes ": " ++ (decimal found ++ (codes " bytes, manifest says " ++ decimal stated))))
 put_cause image (put.ImageTooLarge size device) = codes "image " ++ (image ++ (codes ": " ++ (decimal size ++ (codes " bytes do not fit device of " ++ decimal device))))
 
--- why a slot is not written
-abbrev pub slot_cause : List ℕ → SlotRefusal → List ℕ
-slot_cause image (slot.NoSuchSlot text) = codes "no such slot: " ++ text
-slot_cause image (slot.Image refusal) = put_cause image refusal
+-- why the slot of a name is not written
+abbrev pub slot_cause : List ℕ → List ℕ → SlotRefusal → List ℕ
+slot_cause name image (slot.NoSuchSlot text) = codes "no such slot: " ++ text
+slot_cause name image (slot.ReadOnly at) = codes "slot " ++ (name ++ codes " is readonly")
+slot_cause name image (slot.ArchiveImage path) = codes "image " ++ (path ++ codes " is an archive")
+slot_cause name image (slot.WrongType at) = codes "slot " ++ (name ++ codes " cannot be written")
+slot_cause name image (slot.Image refusal) = put_cause image refusal
 
 -- the cause of an end of the command
 abbrev pub cause_of : Command → Outcome → List ℕ
@@ -105,7 +112,7 @@ cause_of command end.Help = []
 cause_of command end.Usage = codes "bad usage, see rauc --help"
 cause_of command end.NoConfig = codes "no configuration " ++ conf_path command
 cause_of command (end.BadConfig refusal) = conf_cause refusal
-cause_of command (end.Slot refusal) = slot_cause (image_path command) refusal
+cause_of command (end.Slot refusal) = slot_cause (slot_name command) (image_path command) refusal
 cause_of command (end.Outside kind) = codes "outside fault: " ++ fault_word kind
 cause_of command end.NoMemory = codes "out of memory"
 

@@ -1,6 +1,7 @@
 //! The command `rauc`: what its words ask for, what it does, and what it reports.
 #![tactic(auto)]
 
+mod archive;
 mod conf;
 mod lines;
 mod outcome;

@@ -1,5 +1,5 @@
 ghost use Rattle.std.specs.Prelude.{◌≡◌, ◌++◌, IfOk, Some, codes, string_bytes};
-ghost use Rattle.rauc_cli.specs.Lines.{cause_of, conf_cause, failed, failing, fault_word, help_report, image_path, key_cause, place_cause, put_cause, refusal_cause, slot_cause, written_head, written_line, written_report};
+ghost use Rattle.rauc_cli.specs.Lines.{cause_of, conf_cause, failed, failing, fault_word, help_report, image_path, slot_name, key_cause, place_cause, put_cause, refusal_cause, slot_cause, written_head, written_line, written_report};
 ghost use Rattle.rauc_cli.specs.Ends.{IsFailure, Speaks};
 ghost use Rattle.rauc_words.specs.declared.asked.Asked.TheVariants.{Run};
 
@@ -73,6 +73,15 @@ fn fault_word(kind: Fault) -> &'static str
         Fault::Replace => "replace",
         Fault::Run => "run",
         Fault::Clock => "clock",
+    }
+}
+
+// The name of the command's slot.
+fn slot_name(command: &Command) -> &str
+    ensures { result.now ≡ slot_name command.now }
+{
+    match command {
+        Command::WriteSlot { slot, .. } => slot.as_str(),
     }
 }
 
@@ -206,15 +215,26 @@ fn put_cause(alloc: Global, image: &str, refusal: &PutRefusal) -> Result<String,
     }
 }
 
-// Why a slot is not written.
-fn slot_cause(alloc: Global, image: &str, refusal: &SlotRefusal) -> Result<String, AllocError>
-    ensures { IfOk result (λ t. string_bytes t ≡ slot_cause image.now refusal.now) }
+// Why the slot of this name is not written.
+fn slot_cause(
+    alloc: Global,
+    slot: &str,
+    image: &str,
+    refusal: &SlotRefusal,
+) -> Result<String, AllocError>
+    ensures { IfOk result (λ t. string_bytes t ≡ slot_cause slot.now image.now refusal.now) }
 {
     match refusal {
         SlotRefusal::NoSuchSlot { text } => {
             let text = text.as_str();
             format!(in alloc; "no such slot: {text}")
         }
+        SlotRefusal::ReadOnly { .. } => format!(in alloc; "slot {slot} is readonly"),
+        SlotRefusal::ArchiveImage { image } => {
+            let image = image.as_str();
+            format!(in alloc; "image {image} is an archive")
+        }
+        SlotRefusal::WrongType { .. } => format!(in alloc; "slot {slot} cannot be written"),
         SlotRefusal::Image(refusal) => put_cause(alloc, image, refusal),
     }
 }
@@ -231,7 +251,9 @@ fn cause(alloc: Global, command: &Command, outcome: &Outcome) -> Result<String, 
             format!(in alloc; "no configuration {path}")
         }
         Outcome::BadConfig(refusal) => conf_cause(alloc, refusal),
-        Outcome::Slot(refusal) => slot_cause(alloc, image_path(command), refusal),
+        Outcome::Slot(refusal) => {
+            slot_cause(alloc, slot_name(command), image_path(command), refusal)
+        }
         Outcome::Outside(kind) => {
             let word = fault_word(*kind);
             format!(in alloc; "outside fault: {word}")

@@ -10,6 +10,12 @@ use updater_text::{Digest, Fault, Text};
 pub enum SlotRefusal {
     /// No slot of the configuration has this name.
     NoSuchSlot { text: Text },
+    /// The slot at this place is configured as read-only.
+    ReadOnly { slot: usize },
+    /// The image at this path is an archive, which is not unpacked.
+    ArchiveImage { image: Text },
+    /// The slot at this place is of a type that is not written to.
+    WrongType { slot: usize },
     /// The image is not put on the slot's device.
     Image(PutRefusal),
 }

@@ -1,15 +1,16 @@
 ghost use Rattle.std.specs.Prelude.{◌≡◌, IsTrue, IfOk};
 ghost use Rattle.machine.specs.Past.{Always, Fails, now};
 ghost use Rattle.machine.specs.Stops.{StopCounted, stop_fault};
-ghost use Rattle.rauc_cli.specs.Slots.{Puts, device_at, image_stop, put_answer, slot_answer, slot_device, whole_answer};
+ghost use Rattle.rauc_cli.specs.Slots.{Puts, at_answer, device_at, image_stop, put_answer, refusal_at, refusal_of, slot_answer, slot_device, whole_answer};
 
 use crate::SlotRefusal;
+use crate::archive::is_archive;
 use crate::outcome::SlotWritten;
 use machine::Machine;
 use raw_writer::{PutRefusal, WholeStop, check_image, write_whole};
 use std::alloc::Global;
-use system_conf::{Slot, System};
-use updater_text::{Digest, Stop, Text};
+use system_conf::{Slot, SlotKind, System};
+use updater_text::{Digest, NoMemory, Stop, Text};
 
 /// How many bytes are read and written at a time.
 const PIECE: usize = 65_536;
@@ -80,9 +81,64 @@ fn device_at(slots: &[Slot], at: usize) -> &str
     }
 }
 
+// Why the image is not written to the slot at this place, whatever stands on the machine.
+fn refusal_of(
+    alloc: Global,
+    at: usize,
+    slot: &Slot,
+    image: &str,
+) -> Result<Option<SlotRefusal>, NoMemory>
+    ensures { IfOk result (λ refusal. refusal ≡ refusal_of at slot.now image.now) }
+{
+    if slot.readonly {
+        return Ok(Some(SlotRefusal::ReadOnly { slot: at }));
+    }
+    if is_archive(image) {
+        let image = Text::new(alloc, image)?;
+        return Ok(Some(SlotRefusal::ArchiveImage { image }));
+    }
+    match slot.kind {
+        SlotKind::Unwritten(_) => Ok(Some(SlotRefusal::WrongType { slot: at })),
+        _ => Ok(None),
+    }
+}
+
+fn refusal_at(
+    alloc: Global,
+    slots: &[Slot],
+    at: usize,
+    image: &str,
+) -> Result<Option<SlotRefusal>, NoMemory>
+    ensures { IfOk result (λ refusal. refusal ≡ refusal_at slots.now at image.now) }
+{
+    match slots.get(at) {
+        Some(slot) => refusal_of(alloc, at, slot, image),
+        None => Ok(None),
+    }
+}
+
+// Writes the image to the slot at this place, unless the slot or the image's name refuses it.
+fn write_at<M: Machine>(
+    alloc: Global,
+    m: &mut M,
+    slots: &[Slot],
+    at: usize,
+    image: &str,
+) -> Result<SlotWritten, Stop<SlotRefusal>>
+    ensures put { Puts M.tells image.now (device_at slots.now at) (at_answer slots.now image.now (now (M.past m.old)) at) (M.past m.old) (M.past m.new) result }
+    ensures counts { StopCounted (M.faults m.old) (M.faults m.new) (M.wants m.old) (M.wants m.new) result }
+{
+    match refusal_at(alloc, slots, at, image) {
+        Ok(None) => write_on(alloc, m, at, device_at(slots, at), image),
+        Ok(Some(refusal)) => Err(Stop::Refused(refusal)),
+        Err(NoMemory) => Err(Stop::NoMemory),
+    }
+}
+
 /// Writes an image whole to the front of the device of the slot of this name. In this order:
-/// `NoSuchSlot` where no slot has the name; the refusals of the image's check; `ImageSize` where the
-/// image grew shorter since.
+/// `NoSuchSlot` where no slot has the name; `ReadOnly` where the slot is configured so;
+/// `ArchiveImage` where the image's path names an archive; `WrongType` where the slot's type is not
+/// written to; the refusals of the image's check; `ImageSize` where the image grew shorter since.
 pub fn write_slot<M: Machine>(
     alloc: Global,
     m: &mut M,
@@ -94,7 +150,7 @@ pub fn write_slot<M: Machine>(
     ensures counts { StopCounted (M.faults m.old) (M.faults m.new) (M.wants m.old) (M.wants m.new) result }
 {
     match system.slot_named(slot) {
-        Some(at) => write_on(alloc, m, at, device_at(system.slots.as_slice(), at), image),
+        Some(at) => write_at(alloc, m, system.slots.as_slice(), at, image),
         None => match Text::new(alloc, slot) {
             Ok(text) => Err(Stop::Refused(SlotRefusal::NoSuchSlot { text })),
             Err(_) => Err(Stop::NoMemory),
