@@ -1,7 +1,6 @@
 -- What write-slot answers, and what it leaves.
-use Rattle.std.specs.Prelude.{◌≡◌, ℕ, Bool, true, false, IsTrue, List, [], take, if◌then◌else◌, Option, Some, None, Result, Ok, Err, IfOk, slice_get, position, bytes_eq}
+use Rattle.std.specs.Prelude.{◌≡◌, ℕ, Bool, true, false, IsTrue, List, [], take, if◌then◌else◌, Option, Some, None, Result, Ok, Err, IfOk, slice_get, position, bytes_eq, option_and_then}
 use Rattle.std.specs.Option.{option_map_or}
-use Rattle.std.specs.Prelude.{option_and_then}
 use Rattle.sha2.specs.Sha256.{sha256}
 use Rattle.updater_text.specs.declared.stops.Stop.{Stop}
 use Rattle.updater_text.specs.declared.stops.Stop.TheVariants as stop

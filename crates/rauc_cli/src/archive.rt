@@ -1,5 +1,5 @@
 ghost use Rattle.std.specs.Prelude.{◌≡◌, bytes_eq, codes};
-ghost use Rattle.std.specs.List.{after_last, list_any, slice_split};
+ghost use Rattle.std.specs.List.{list_any};
 ghost use Rattle.rauc_cli.specs.Archives.{extensions, file_name, is_archive, is_archive_name};
 
 // What follows the last slash of a path, or the whole path where it has none.

@@ -17,4 +17,8 @@ pub use slots::write_slot;
 #[cfg(test)]
 mod conf_tests;
 #[cfg(test)]
+mod slot_tests;
+#[cfg(test)]
 mod tests;
+#[cfg(test)]
+mod word_tests;
