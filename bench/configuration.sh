@@ -1,7 +1,9 @@
 #!/usr/bin/env bash
 # How long the built program takes to read a configuration: files of comments, of many groups with
-# many keys, and of 64 slots, each at three lengths. Prints the best of nine runs in ms, and MB/s.
-# The times hold the start of the program too. Needs bash and coreutils.
+# twenty keys each, of as many short keys as fit, and of 64 slots, each at three lengths; and files of
+# 1 MiB with fewer slots. Prints the best of nine runs in ms, and MB/s; the times hold the start of the
+# program too. A file of 1 MiB is to take less than 50 ms, and one with 64 slots less than 100 ms: the
+# status is 1 where one takes longer. Needs bash and coreutils.
 set -eu
 program=$(realpath "${1:-build/rauc}")
 scratch=$(mktemp -d)
@@ -16,8 +18,13 @@ groups() {
   awk 'BEGIN { for (group = 0; ; group++) { print "[log." group "]"; for (key = 0; key < 20; key++) print "key-" key "=the value\\sof the key " key } }'
 }
 
+keys() {
+  awk 'BEGIN { print "[log.a]"; for (key = 0; ; key++) printf "%x=\n", key }'
+}
+
+# slots COUNT: so many slots, and then comments.
 slots() {
-  for slot in $(seq 0 63); do
+  for slot in $(seq 0 $(($1 - 1))); do
     printf '[slot.rootfs.%s]\ndevice=/dev/disk/by-partlabel/rootfs-%s\ntype=ext4\nbootname=system-%s\n\n' "$slot" "$slot" "$slot"
   done
   comments
@@ -36,12 +43,29 @@ best() {
   echo "$least"
 }
 
-for kind in comments groups slots; do
-  for size in 262144 524288 1048576; do
-    # The last line is cut off whole, so that it is no bad one.
-    (head_of; "$kind") 2> /dev/null | head -c "$size" | sed '$d' > file || true
-    took=$(best file)
-    awk -v kind="$kind" -v size="$(wc -c < file)" -v took="$took" \
-      'BEGIN { printf "%-8s %8d bytes %8.2f ms %8.1f MB/s\n", kind, size, took / 1000, size / took }'
-  done
+late=0
+
+# measure SIZE LIMIT KIND..: reads a file of a kind, of so many bytes at most. The limit is in ms.
+measure() {
+  local size=$1 limit=$2 took
+  shift 2
+  # The last line is cut off whole, so that it is no bad one.
+  (head_of; "$@") 2> /dev/null | head -c "$size" | sed '$d' > file || true
+  took=$(best file)
+  awk -v kind="$*" -v size="$(wc -c < file)" -v took="$took" \
+    'BEGIN { printf "%-9s %8d bytes %8.2f ms %8.1f MB/s\n", kind, size, took / 1000, size / took }'
+  if [ "$took" -ge $((limit * 1000)) ]; then
+    echo "that is not under $limit ms"
+    late=1
+  fi
+}
+
+for size in 262144 524288 1048576; do
+  measure "$size" 50 comments
+  measure "$size" 50 groups
+  measure "$size" 50 keys
+  measure "$size" 100 slots 64
 done
+measure 1048576 100 slots 16
+measure 1048576 100 slots 32
+exit "$late"
