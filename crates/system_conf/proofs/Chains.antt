@@ -131,7 +131,7 @@ root_from_end slots stand (suc steps) at within ends =
         let above = more p (parent_stands slots stand at s p is e) (sym (ap (option_and_then (ancestor slots steps)) up) ∙ ends) in
         (above.0, (above.1.0, (p ∷ above.1.1.0, (up, above.1.1.1))))
 
-none_is : {A : Type 0} (o : Option A) → is_none o ≡ true → o ≡ None
+pub none_is : {A : Type 0} (o : Option A) → is_none o ≡ true → o ≡ None
 none_is (Some x) h = absurd (true≢false (sym h))
 none_is None h = refl
 

@@ -7,7 +7,7 @@ mod FirstOf
 mod Mandatory
 mod Names
 mod Numbered
-mod Rootless
+pub mod Rootless
 mod SlotForms
 mod SlotGroups
 mod Soundness

@@ -1,25 +1,27 @@
 -- What reading a configuration says of roots.
-use Rattle.std.proofs.Common.{◌≡◌, ◌<◌, ℕ, zero, suc, ◌+◌, Bool, true, false, cond, List, [], ◌∷◌, length, take, Option, Some, None, Result, Ok, Err, slice_get, option_map, refl, sym, ◌∙◌, ap, subst, arith}
+use Rattle.std.proofs.Common.{◌≡◌, ◌<◌, ℕ, zero, suc, ◌+◌, Bool, true, false, cond, List, [], ◌∷◌, length, take, Option, Some, None, Result, Ok, Err, slice_get, option_map, refl, sym, ◌∙◌, ap, arith}
 use Rattle.std.specs.Option.{option_map_or}
 use Rattle.std.specs.Prelude.{is_none}
 use Rattle.std.specs.List.{enumerate_from}
 use Rattle.std.proofs.lemmas.Bool.{true≢false}
 use Rattle.updater_text.specs.declared.stops.Lack.{Lack}
 use Rattle.updater_text.specs.declared.stops.Lack.TheVariants as lack
+use Rattle.boot_model.specs.declared.boot_kind.BootKind.{BootKind}
 use Rattle.keyfile.specs.Groups.{Text, Group, get_in}
 use Rattle.conf_forms.specs.Lists.{or_else, first_of}
 use Rattle.conf_forms.specs.SlotNames.{name_of, slot_groups}
 use Rattle.system_conf.specs.Slots.{slots_of, chain_ends}
 use Rattle.system_conf.specs.Parents.{HasRoot, AreRooted, IsFirstRootless, ChainsEndAtRoots, RootsTold}
-use Rattle.system_conf.specs.Reads.{Reads, shown}
-use Rattle.system_conf.specs.Refusals.{Configuration, configuration, system_of, unless_refused, refusal_of, mandatory, missing_at, missing, unknown_key, left_out, bad_value, misnamed, is_misnamed, bad_slot_name, too_many, alike, twins, twin_of, same_device, same_bootname, has_parent, orphan, no_parent, endless, parent_cycle, booted_child, child_boot_name, is_kept, kept_of, kept_device, device_is_file, first_place}
+use Rattle.system_conf.specs.Reads.{Reads}
+use Rattle.system_conf.specs.Sound.{are_unrefused, parents_stand}
+use Rattle.system_conf.specs.Refusals.{first_row, boot_kept, Configuration, configuration, system_of, unless_refused, refusal_of, mandatory, missing_at, missing, unknown_key, left_out, bad_value, misnamed, is_misnamed, bad_slot_name, too_many, alike, twins, twin_of, same_device, same_bootname, has_parent, orphan, no_parent, endless, parent_cycle, booted_child, child_boot_name, is_kept, kept_of, kept_device, device_is_file, first_place}
 use Rattle.system_conf.specs.declared.places.Fault.TheVariants as fault
 use Rattle.system_conf.specs.declared.shared.Shared.TheVariants as shared
 use Rattle.system_conf.specs.declared.conf_refusal.ConfRefusal.{ConfRefusal}
 use Rattle.system_conf.specs.declared.conf_refusal.ConfRefusal.TheVariants as refusal
 use Rattle.system_conf.specs.declared.slot.Slot.{Slot}
 use Rattle.system_conf.specs.declared.system.System.{System}
-use Rattle.system_conf.proofs.Chains.{chains_end, one_root}
+use Rattle.system_conf.proofs.Chains.{chains_end, none_is, one_root}
 use Rattle.system_conf.proofs.FirstOf.{both_none}
 use Rattle.system_conf.proofs.Soundness.{parents_read}
 
@@ -173,20 +175,6 @@ cycle_row groups name h =
     kept_first (parent_cycle slots) _ name
     (other_or (child_boot_name slots) _ (other_child_boot_name slots) (other_or (device_is_file groups slots) None (other_device_is_file groups slots) other_none)) h9
 
-no_cycle_row : (groups : List Group) → refusal_of groups ≡ None → parent_cycle (slots_of groups) ≡ None
-no_cycle_row groups h =
-    let slots = slots_of groups in
-    let h1 = (both_none (missing groups) _ h).1 in
-    let h2 = (both_none (unknown_key groups) _ h1).1 in
-    let h3 = (both_none (left_out groups) _ h2).1 in
-    let h4 = (both_none (bad_value groups) _ h3).1 in
-    let h5 = (both_none (bad_slot_name groups) _ h4).1 in
-    let h6 = (both_none (too_many slots) _ h5).1 in
-    let h7 = (both_none (same_device slots) _ h6).1 in
-    let h8 = (both_none (same_bootname slots) _ h7).1 in
-    let h9 = (both_none (no_parent groups) _ h8).1 in
-    (both_none (parent_cycle slots) _ h9).0
-
 -- ---- what is told
 
 at_zero : (k : ℕ) → 0 + k ≡ k
@@ -195,11 +183,15 @@ at_zero k = omega arith
 pub chains_read : (groups : List Group) → ChainsEndAtRoots (slots_of groups)
 chains_read groups = chains_end (slots_of groups) (parents_read groups)
 
-all_rooted : (groups : List Group) → refusal_of groups ≡ None → AreRooted (slots_of groups)
+-- the slots of a system lie under one root each
+pub rooted : (boot : BootKind) (mount_prefix : Text) (status_file data_directory : Option Text) (slots : List Slot) → parents_stand slots ≡ true → are_unrefused boot mount_prefix status_file data_directory slots ≡ true → AreRooted slots
 unfolding parent_cycle
-all_rooted groups h at within =
-    let ends = none_endless (slots_of groups) (slots_of groups) 0 (no_cycle_row groups h) at within in
-    one_root (slots_of groups) at ((chains_read groups at within).0 (ap (chain_ends (slots_of groups)) (sym (at_zero at)) ∙ ends))
+rooted boot mount_prefix status_file data_directory slots stand fine at within =
+    let none = none_is (first_row (too_many slots ∷ same_device slots ∷ same_bootname slots ∷ parent_cycle slots ∷ child_boot_name slots ∷ first_of (kept_device (boot_kept boot mount_prefix status_file data_directory)) slots ∷ [])) fine in
+    let after_devices = (both_none (same_device slots) _ (both_none (too_many slots) _ none).1).1 in
+    let no_cycle = (both_none (parent_cycle slots) _ (both_none (same_bootname slots) _ after_devices).1).0 in
+    let ends = none_endless slots slots 0 no_cycle at within in
+    one_root slots at ((chains_end slots stand at within).0 (ap (chain_ends slots) (sym (at_zero at)) ∙ ends))
 
 named_within : (xs : List Slot) (at : ℕ) (name : Text) → option_map (λ (s : Slot). s.name) (slice_get xs at) ≡ Some name → at < length xs
 named_within [] at name h = absurd (cc)
@@ -208,7 +200,7 @@ named_within (x ∷ xs) (suc at) name h = let less = named_within xs at name h i
 
 first_rootless : (groups : List Group) (name : Text) → refusal_of groups ≡ Some (refusal.ParentCycle name) → IsFirstRootless (slots_of groups) name
 unfolding parent_cycle
-first_rootless groups name h = (r.0, r.1, no_root, rooted)
+first_rootless groups name h = (r.0, r.1, no_root, above)
   where
     slots : List Slot
     slots = slots_of groups
@@ -222,25 +214,15 @@ first_rootless groups name h = (r.0, r.1, no_root, rooted)
     no_root : HasRoot slots r.0 → ⊥
     no_root root = true≢false (sym ((chains_read groups r.0 within).1 root) ∙ ap (chain_ends slots) (sym (at_zero r.0)) ∙ r.2)
 
-    rooted : (k : ℕ) → k < r.0 → HasRoot slots k
-    rooted k l = (chains_read groups k (omega (arith, l, within))).0 (ap (chain_ends slots) (sym (at_zero k)) ∙ r.3 k l)
+    above : (k : ℕ) → k < r.0 → HasRoot slots k
+    above k l = (chains_read groups k (omega (arith, l, within))).0 (ap (chain_ends slots) (sym (at_zero k)) ∙ r.3 k l)
 
 refused_by : (o : Option ConfRefusal) (c : Configuration) (why : ConfRefusal) → unless_refused o c ≡ Err why → o ≡ Some why
 refused_by (Some y) c why h = cc
 refused_by None c why h = absurd (cc)
 
-read_as : (o : Option ConfRefusal) (c d : Configuration) → unless_refused o c ≡ Ok d → (o ≡ None) × (c ≡ d)
-read_as (Some y) c d h = absurd (cc)
-read_as None c d h = (refl, cc)
-
-same_slots : (groups : List Group) (c : Configuration) → configuration groups ≡ c → slots_of groups ≡ c.slots
-unfolding configuration
-same_slots groups c h = ap (λ (d : Configuration). d.slots) h
-
 pub roots_told : (groups : List Group) (r : Result System (Lack ConfRefusal)) → Reads (system_of groups) r → RootsTold (slots_of groups) r
 unfolding RootsTold
-roots_told groups (Ok system) h =
-    let read = read_as (refusal_of groups) (configuration groups) (shown system) h in
-    subst (λ (slots : List Slot). AreRooted slots) (same_slots groups (shown system) read.1) (all_rooted groups read.0)
+roots_told groups (Ok system) h = rooted system.boot system.mount_prefix system.status_file system.data_directory system.slots system.parents_stand system.unrefused
 roots_told groups (Err (lack.Refused (refusal.ParentCycle name))) h = first_rootless groups name (refused_by (refusal_of groups) (configuration groups) (refusal.ParentCycle name) h)
 roots_told groups (Err _) h = tt
