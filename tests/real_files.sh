@@ -98,6 +98,10 @@ expect 2 "rauc: outside fault: read" write-slot -c . rootfs.1 full.img
 expect 1 "rauc: bad usage, see rauc --help"
 expect 1 "rauc: bad usage, see rauc --help" write-slot rootfs.1
 expect 1 "rauc: bad usage, see rauc --help" $'\xff'
+expect 1 "rauc: bad usage, see rauc --help" --help $'\xff'
+expect 0 "usage: rauc [-c FILE] [--override-boot-slot=NAME] COMMAND
+commands: install BUNDLE, info BUNDLE, status [ACTION [SLOT]], write-slot SLOT IMAGE, service" --help
+expect 1 "rauc: image r.tar.xz is an archive" write-slot -c c rootfs.1 r.tar.xz
 same b before
 mv b gone
 expect 1 "rauc: no device $PWD/b" write-slot -c c rootfs.1 full.img
