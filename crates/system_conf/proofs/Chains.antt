@@ -111,7 +111,7 @@ slot_stands n [] h at s e = absurd (cc)
 slot_stands n (x ∷ xs) h zero s e = let same : x ≡ s = cc in subst (λ (t : Slot). option_map_or (λ p. nat_lt p n) t.parent true ≡ true) same (and_parts (option_map_or (λ p. nat_lt p n) x.parent true) _ h).0
 slot_stands n (x ∷ xs) h (suc at) s e = slot_stands n xs (and_parts (option_map_or (λ p. nat_lt p n) x.parent true) _ h).1 at s e
 
-parent_stands : (slots : List Slot) → parents_stand slots ≡ true → (at : ℕ) (s : Slot) (p : ℕ) → slice_get slots at ≡ Some s → s.parent ≡ Some p → p < length slots
+pub parent_stands : (slots : List Slot) → parents_stand slots ≡ true → (at : ℕ) (s : Slot) (p : ℕ) → slice_get slots at ≡ Some s → s.parent ≡ Some p → p < length slots
 parent_stands slots stand at s p e up = ltb-true p (length slots) (sym (ap (λ (o : Option ℕ). option_map_or (λ q. nat_lt q (length slots)) o true) up) ∙ slot_stands (length slots) slots stand at s e)
 
 root_from_end : (slots : List Slot) → parents_stand slots ≡ true → (steps at : ℕ) → at < length slots → ancestor slots steps at ≡ None → HasRoot slots at
