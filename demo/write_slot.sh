@@ -1,6 +1,6 @@
 #!/usr/bin/env bash
 # Shows the program's main job on files that it makes in a scratch folder: an image is written to the
-# inactive one of two slots.
+# inactive one of two slots, and the other, which counts as booted, is left alone.
 set -eu
 program=$(realpath "${1:-build/rauc}")
 scratch=$(mktemp -d "$(dirname "$program")/demo.XXXXXX")
@@ -38,15 +38,16 @@ device=$scratch/slot-b
 bootname=B
 CONF
 
-echo "Two files stand for the devices of two slots:"
+echo "Two files stand for the devices of two slots, of which the first counts as booted:"
 slots
 echo "The image system.img: $(wc -c < system.img) bytes, sha256 $(sha256sum < system.img | cut -c1-64)"
-run write-slot -c system.conf rootfs.1 system.img
+run write-slot --override-boot-slot=A -c system.conf rootfs.1 system.img
 echo
 echo "The second slot begins with the image, the rest of it and the first slot are as before:"
 slots
 cmp -n 1000000 system.img slot-b && echo "  the first 1000000 bytes of slot-b are those of system.img"
-run write-slot -c system.conf rootfs.1 large.img
-run write-slot -c system.conf rootfs.7 system.img
+run write-slot --override-boot-slot=A -c system.conf rootfs.0 system.img
+run write-slot --override-boot-slot=A -c system.conf rootfs.1 large.img
+run write-slot --override-boot-slot=A -c system.conf rootfs.7 system.img
 echo
 echo "Next: docs/reference.md says what each command, line and status means; README.md says what is proved."

@@ -36,6 +36,7 @@ use Rattle.rauc_cli.specs.Lines.{failed, memory_report, outside}
 use Rattle.rauc_cli.specs.Slots.{PutKept, Puts}
 use Rattle.rauc_cli.specs.Plans.{Plan, Stay, Write, Kept, Left, slot_plan, report_of, conf_plan, file_plan, words_plan}
 use Rattle.rauc_cli.specs.Ends.{SlotSays, Speaks, Ended, Finished, Caused, Complete}
+use Rattle.rauc_cli.proofs.Sparing.{running_planned}
 use Rattle.rauc_cli.proofs.Stopping.{held_safe}
 
 kept_same : (plan : Plan) (w u : World) → u ≡ w → Kept plan w u
@@ -198,27 +199,29 @@ done_none plan (Some kind) report is done =
     outside_done : (kind : Fault) → end.Outside kind ≡ end.Done → ⊥
     outside_done kind e = cc
 
-pub finished_report : (t : Bool) (asked : Option Asked) (plan : Plan) (a b : Past) (o o' e e' : Shown) (report : Report) (told : Bool) → Ended t plan a b (Ok report) → Speaks asked report → Told o o' e e' report.out report.err told → Finished t asked plan a b o o' e e' (record { outcome = report.outcome; told = told })
-finished_report t asked plan a b o o' e e' report told ended spoken says = record {
+pub finished_report : (t : Bool) (asked : Option Asked) (a b : Past) (o o' e e' : Shown) (report : Report) (told : Bool) → Ended t (words_plan (now a) asked) a b (Ok report) → Speaks asked report → Told o o' e e' report.out report.err told → Finished t asked (words_plan (now a) asked) a b o o' e e' (record { outcome = report.outcome; told = told })
+finished_report t asked a b o o' e e' report told ended spoken says = record {
   report = report;
   outcome = refl;
   told = says;
   spoken = inr spoken;
   reported = λ tells. inr (ended.reported tells);
   kept = ended.kept;
-  held = λ tells. held_safe plan a b (ended.kept tells);
-  left = λ tells done. ended.left tells (done_none plan (failed_since a b) report (ended.reported tells) done);
+  held = λ tells. held_safe (words_plan (now a) asked) a b (ended.kept tells);
+  running = running_planned t asked a b ended.kept;
+  left = λ tells done. ended.left tells (done_none (words_plan (now a) asked) (failed_since a b) report (ended.reported tells) done);
 }
 
-pub finished_memory : (t : Bool) (asked : Option Asked) (plan : Plan) (a b : Past) (o o' e e' : Shown) (memory : NoMemory) (told : Bool) → Ended t plan a b (Err memory) → Told o o' e e' memory_report.out memory_report.err told → Finished t asked plan a b o o' e e' (record { outcome = end.NoMemory; told = told })
-finished_memory t asked plan a b o o' e e' memory told ended says = record {
+pub finished_memory : (t : Bool) (asked : Option Asked) (a b : Past) (o o' e e' : Shown) (memory : NoMemory) (told : Bool) → Ended t (words_plan (now a) asked) a b (Err memory) → Told o o' e e' memory_report.out memory_report.err told → Finished t asked (words_plan (now a) asked) a b o o' e e' (record { outcome = end.NoMemory; told = told })
+finished_memory t asked a b o o' e e' memory told ended says = record {
   report = memory_report;
   outcome = refl;
   told = says;
   spoken = inl refl;
   reported = λ tells. inl refl;
   kept = ended.kept;
-  held = λ tells. held_safe plan a b (ended.kept tells);
+  held = λ tells. held_safe (words_plan (now a) asked) a b (ended.kept tells);
+  running = running_planned t asked a b ended.kept;
   left = λ tells done. absurd (memory_done done);
 }
   where

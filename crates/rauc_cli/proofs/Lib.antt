@@ -1,3 +1,5 @@
+pub mod Checking
 pub mod Ending
 pub mod Putting
+pub mod Sparing
 pub mod Stopping

@@ -1,5 +1,5 @@
 -- A slot is written.
-use Rattle.std.proofs.Common.{◌≡◌, ◌<◌, ◌≤◌, ℕ, Bool, List, length, Some, None, Result, Ok, Err, IsTrue, sym, ◌∙◌, ap, subst, arith}
+use Rattle.std.proofs.Common.{◌≡◌, ◌<◌, ◌≤◌, ℕ, Bool, List, length, Option, Some, None, Result, Ok, Err, IsTrue, IfOk, refl, sym, ◌∙◌, ap, subst, arith}
 use Rattle.updater_text.specs.Counts.{Rose}
 use Rattle.updater_text.specs.declared.stops.Stop.{Stop}
 use Rattle.updater_text.specs.declared.stops.Stop.TheVariants.{Refused, Outside, NoMemory}
@@ -23,7 +23,9 @@ use Rattle.raw_writer.proofs.Checks.{check_length, check_room}
 use Rattle.rauc_cli.specs.declared.outcome.SlotRefusal.{SlotRefusal}
 use Rattle.rauc_cli.specs.declared.outcome.SlotRefusal.TheVariants.{Image}
 use Rattle.rauc_cli.specs.declared.outcome.SlotWritten.{SlotWritten}
-use Rattle.rauc_cli.specs.Slots.{piece, checked_answer, put_answer, PutKept, Puts, image_stop, whole_answer}
+use Rattle.rauc_cli.specs.Checks.{Finds, accepted}
+use Rattle.rauc_cli.specs.Slots.{piece, checked_answer, put_answer, PutKept, Puts, image_stop, unless, whole_answer}
+use Rattle.rauc_cli.proofs.Checking.{settled_as}
 
 kept_same : (device : List ℕ) (answer : Result SlotWritten SlotRefusal) (w u : World) → u ≡ w → PutKept device answer w u
 kept_same device (Ok written) w u h = subst (λ (x : World). OnlyIn device 0 written.size w x) (sym h) (only_refl device 0 written.size w)
@@ -44,6 +46,47 @@ puts_checked t image device slot a b (Refused r) unchanged answers fails =
     puts_stop t image device _ a b (Refused (Image r)) unchanged (λ told. ap (checked_answer slot image (now a)) (answers told)) fails
 puts_checked t image device slot a b (Outside kind) unchanged answers fails = puts_stop t image device _ a b (Outside kind) unchanged (λ told. tt) fails
 puts_checked t image device slot a b NoMemory unchanged answers fails = puts_stop t image device _ a b NoMemory unchanged (λ told. tt) fails
+
+-- the slot is refused, or a call of its checks failed
+module _ (t : Bool) (image device : List ℕ) (refusal : Option SlotRefusal) (answer : Result SlotWritten SlotRefusal) (a b : Past) where
+  abbrev refused : Result (Unit {0}) SlotRefusal → Result SlotWritten SlotRefusal
+  refused (Err r) = Err r
+  refused (Ok u) = answer
+
+  turned : (o : Option SlotRefusal) → refused (accepted o) ≡ unless o answer
+  turned (Some r) = refl
+  turned None = refl
+
+  pub puts_refused : (stop : Stop SlotRefusal) → Finds {T = Unit {0}} t (accepted refusal) a b (Err stop) → Puts t image device (unless refusal answer) a b (Err stop)
+  puts_refused (Refused r) finds = puts_stop t image device (unless refusal answer) a b (Refused r) finds.unchanged (λ told. sym (turned refusal) ∙ ap refused (finds.answers told)) finds.fails
+  puts_refused (Outside kind) finds = puts_stop t image device (unless refusal answer) a b (Outside kind) finds.unchanged (λ told. tt) finds.fails
+  puts_refused NoMemory finds = puts_stop t image device (unless refusal answer) a b NoMemory finds.unchanged (λ told. tt) finds.fails
+
+-- the slot is not refused, and then the rest
+pub puts_after : (t : Bool) (image device : List ℕ) (refusal : Option SlotRefusal) (p q : Result SlotWritten SlotRefusal) (a b c : Past) (u : Unit {0}) (result : Result SlotWritten (Stop SlotRefusal)) → Finds {T = Unit {0}} t (accepted refusal) a b (Ok u) → (now b ≡ now a → p ≡ q) → Puts t image device p b c result → Puts t image device (unless refusal q) a c result
+puts_after t image device refusal p q a b c u result finds same rest = record {
+  kept = λ told.
+      always_joins a b c (PutKept device (unless refusal q) (now a))
+      (always_weaker a b (λ x. x ≡ now a) (PutKept device (unless refusal q) (now a)) (λ x h. kept_same device (unless refusal q) (now a) x h) (finds.unchanged.all told))
+      (always_weaker b c (PutKept device p (now b)) (PutKept device (unless refusal q) (now a)) (λ x h. subst (λ (w : World). PutKept device (unless refusal q) w x) (stood told) (subst (λ (o : Result SlotWritten SlotRefusal). PutKept device o (now b) x) (onto told) h)) (rest.kept told));
+  answers = λ told. settled_as result p (unless refusal q) (onto told) (rest.answers told);
+  left = λ told. left_onto result (stood told) (rest.left told);
+  fails = fails_join t a b c (stop_fault result) finds.fails rest.fails;
+}
+  where
+    stood : IsTrue t → now b ≡ now a
+    stood told = now_unchanged t a b finds.unchanged told
+
+    passed : (o : Option SlotRefusal) → accepted o ≡ Ok u → q ≡ unless o q
+    passed None e = refl
+    passed (Some r) e = absurd (cc)
+
+    onto : IsTrue t → p ≡ unless refusal q
+    onto told = same (stood told) ∙ passed refusal (finds.answers told)
+
+    left_onto : (result : Result SlotWritten (Stop SlotRefusal)) → now b ≡ now a → IfOk result (λ written. IsWritten image device piece written.size written.digest (now b) (now c)) → IfOk result (λ written. IsWritten image device piece written.size written.digest (now a) (now c))
+    left_onto (Ok written) e h = subst (λ (w : World). IsWritten image device piece written.size written.digest w (now c)) e h
+    left_onto (Err stop) e h = tt
 
 -- the device has room for an image that was accepted
 pub room_checked : (t : Bool) (a b : Past) (image device : List ℕ) (size : ℕ) → Unchanged t a b → (IsTrue t → check_of (now a) image None (Some device) ≡ Ok size) → HasRoom t b device size

@@ -19,7 +19,8 @@ use Rattle.rauc_cli.specs.declared.outcome.Outcome.TheVariants as end
 use Rattle.rauc_cli.specs.declared.outcome.Report.{Report}
 use Rattle.rauc_cli.specs.declared.outcome.Finish.{Finish}
 use Rattle.rauc_cli.specs.Lines.{failed, help_report, memory_report, outside, usage_report, written_report}
-use Rattle.rauc_cli.specs.Plans.{Plan, Kept, Left, Safe, report_of}
+use Rattle.rauc_cli.specs.Checks.{RunningKept}
+use Rattle.rauc_cli.specs.Plans.{Plan, Kept, Left, Safe, booted_for, report_of, slots_for}
 
 -- every end but those where all was done that the words ask for
 abbrev pub IsFailure : Outcome → Type 0
@@ -77,7 +78,7 @@ pub record Ended (tells : Bool) (plan : Plan) (old new : Past) (result : Result 
   pub reported : IsTrue tells → IfOk result (λ report. report ≡ report_of plan (failed_since old new))
   pub left : IsTrue tells → IfOk result (λ report. failed_since old new ≡ None → Left plan (now old) (now new))
 
--- the program ended so: its outcome and both texts are one report, which went to the sinks; the world was kept on the way, stands as planned where all was done, and is safe wherever the power stops
+-- the program ended so: its outcome and both texts are one report, which went to the sinks; the world was kept on the way, stands as planned where all was done, and is safe wherever the power stops; what runs keeps its bytes
 pub record Finished (tells : Bool) (asked : Option Asked) (plan : Plan) (old new : Past) (out out' err err' : Shown) (finish : Finish) : Type 0 where
   pub report : Report
   pub outcome : finish.outcome ≡ report.outcome
@@ -87,6 +88,7 @@ pub record Finished (tells : Bool) (asked : Option Asked) (plan : Plan) (old new
   pub kept : IsTrue tells → Always old new (Kept plan (now old))
   pub left : IsTrue tells → finish.outcome ≡ end.Done → Left plan (now old) (now new)
   pub held : IsTrue tells → (v : World) → Held old new v → Safe plan (now old) v
+  pub running : RunningKept tells (slots_for asked (now old)) (booted_for asked (now old)) old new
 
 -- where told and no call failed, the end is the plan's own, unless memory was wanting
 abbrev pub Complete : Bool → Plan → ℕ → ℕ → Outcome → Type 0

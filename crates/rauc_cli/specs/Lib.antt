@@ -1,4 +1,5 @@
 pub mod Archives
+pub mod Checks
 pub mod Conf
 pub mod Ends
 pub mod Lines

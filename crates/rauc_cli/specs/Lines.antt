@@ -100,9 +100,13 @@ put_cause image (put.ImageTooLarge size device) = codes "image " ++ (image ++ (c
 -- why the slot of a name is not written
 abbrev pub slot_cause : List ℕ → List ℕ → SlotRefusal → List ℕ
 slot_cause name image (slot.NoSuchSlot text) = codes "no such slot: " ++ text
+slot_cause name image slot.BootedUnknown = codes "booted slot is not known"
+slot_cause name image (slot.Busy at) = codes "slot " ++ (name ++ codes " is in use")
 slot_cause name image (slot.ReadOnly at) = codes "slot " ++ (name ++ codes " is readonly")
 slot_cause name image (slot.ArchiveImage path) = codes "image " ++ (path ++ codes " is an archive")
 slot_cause name image (slot.WrongType at) = codes "slot " ++ (name ++ codes " cannot be written")
+slot_cause name image slot.MountsUnread = codes "mounts unreadable"
+slot_cause name image (slot.Mounted at) = codes "slot " ++ (name ++ codes " is mounted")
 slot_cause name image (slot.Image refusal) = put_cause image refusal
 
 -- the cause of an end of the command

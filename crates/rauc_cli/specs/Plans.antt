@@ -1,5 +1,5 @@
 -- What a call of the program comes to, from its words and the world at its begin.
-use Rattle.std.specs.Prelude.{◌≡◌, ◌<◌, ℕ, false, List, Option, Some, None, Result, Ok, Err}
+use Rattle.std.specs.Prelude.{◌≡◌, ◌<◌, ℕ, false, List, [], Option, Some, None, Result, Ok, Err}
 use Rattle.updater_text.specs.declared.stops.Fault.{Fault}
 use Rattle.machine.specs.declared.world.World.{World}
 use Rattle.machine.specs.World.{file, disk_length, disk_byte}
@@ -17,7 +17,10 @@ use Rattle.rauc_cli.specs.declared.outcome.SlotRefusal.{SlotRefusal}
 use Rattle.rauc_cli.specs.declared.outcome.SlotWritten.{SlotWritten}
 use Rattle.rauc_cli.specs.declared.outcome.Outcome.TheVariants as end
 use Rattle.rauc_cli.specs.declared.outcome.Report.{Report}
+use Rattle.system_conf.specs.declared.slot.Slot.{Slot}
+use Rattle.slot_graph.specs.declared.state.Booted.{Booted}
 use Rattle.rauc_cli.specs.Conf.{conf_of}
+use Rattle.rauc_cli.specs.Checks.{booted_in}
 use Rattle.rauc_cli.specs.Slots.{piece, slot_answer, slot_device}
 use Rattle.rauc_cli.specs.Lines.{failed, help_report, outside, usage_report, written_report}
 
@@ -34,7 +37,7 @@ slot_plan command slot image device (Err refusal) = Stay (failed command (end.Sl
 -- each command, with its configuration
 abbrev pub command_plan : World → Configuration → Command → Plan
 command_plan w system (WriteSlot place slot image) =
-    slot_plan (WriteSlot place slot image) slot image (slot_device system.slots slot) (slot_answer system.slots slot image w)
+    slot_plan (WriteSlot place slot image) slot image (slot_device system.slots slot) (slot_answer system.slots place.given slot image w)
 
 abbrev pub conf_plan : World → Command → Result Configuration BadConf → Plan
 conf_plan w command (Ok system) = command_plan w system command
@@ -52,6 +55,30 @@ words_plan w (Some (Run command)) = file_plan w command (file w (conf_path comma
 -- the plan: words that ask for something, and of a command its configuration's file, then what that says, then the command
 abbrev pub plan_of : List (List ℕ) → World → Plan
 plan_of words w = words_plan w (command_of words)
+
+-- the slots of the configuration that words name, in a world: none where there is none, or it is refused
+abbrev pub slots_by : Result Configuration BadConf → List Slot
+slots_by (Ok system) = system.slots
+slots_by (Err refusal) = []
+
+abbrev pub slots_in : Option (List ℕ) → List Slot
+slots_in (Some bytes) = slots_by (conf_of bytes)
+slots_in None = []
+
+abbrev pub slots_for : Option Asked → World → List Slot
+slots_for (Some (Run command)) w = slots_in (file w (conf_path command))
+slots_for (Some Help) w = []
+slots_for None w = []
+
+-- the name that counts as booted, where words give one
+abbrev pub given_by : Option Asked → Option (List ℕ)
+given_by (Some (Run (WriteSlot place slot image))) = place.given
+given_by (Some Help) = None
+given_by None = None
+
+-- what is booted in a world, as far as words name a configuration
+abbrev pub booted_for : Option Asked → World → Booted
+booted_for asked w = booted_in (slots_for asked w) (given_by asked) w
 
 -- what is reported in the end, with the kind of the first call that failed
 abbrev pub report_of : Plan → Option Fault → Report

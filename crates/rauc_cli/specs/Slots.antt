@@ -1,5 +1,5 @@
 -- What write-slot answers, and what it leaves.
-use Rattle.std.specs.Prelude.{◌≡◌, ℕ, Bool, true, false, IsTrue, List, [], take, if◌then◌else◌, Option, Some, None, Result, Ok, Err, IfOk, slice_get, position, bytes_eq, option_and_then}
+use Rattle.std.specs.Prelude.{◌≡◌, ℕ, Bool, IsTrue, List, [], take, Option, Some, None, Result, Ok, Err, IfOk, slice_get, position, bytes_eq}
 use Rattle.std.specs.Option.{option_map_or}
 use Rattle.sha2.specs.Sha256.{sha256}
 use Rattle.updater_text.specs.declared.stops.Stop.{Stop}
@@ -17,11 +17,9 @@ use Rattle.raw_writer.specs.declared.whole.WholeStop.TheVariants as whole
 use Rattle.raw_writer.specs.Checking.{check_of}
 use Rattle.raw_writer.specs.Whole.{IsWritten}
 use Rattle.system_conf.specs.declared.slot.Slot.{Slot}
-use Rattle.system_conf.specs.declared.slot.SlotKind.{SlotKind}
-use Rattle.system_conf.specs.declared.slot.SlotKind.TheVariants.{Unwritten}
-use Rattle.rauc_cli.specs.Archives.{is_archive}
+use Rattle.rauc_cli.specs.Checks.{refusal_at}
 use Rattle.rauc_cli.specs.declared.outcome.SlotRefusal.{SlotRefusal}
-use Rattle.rauc_cli.specs.declared.outcome.SlotRefusal.TheVariants.{NoSuchSlot, ReadOnly, ArchiveImage, WrongType, Image}
+use Rattle.rauc_cli.specs.declared.outcome.SlotRefusal.TheVariants.{NoSuchSlot, Image}
 use Rattle.rauc_cli.specs.declared.outcome.SlotWritten.{SlotWritten}
 
 -- so many bytes are read and written at a time
@@ -40,41 +38,26 @@ put_answer slot image device w = checked_answer slot image w (check_of w image N
 abbrev pub device_at : List Slot → ℕ → List ℕ
 device_at slots at = option_map_or (λ s. s.device) (slice_get slots at) []
 
--- a type that is known and not written to
-abbrev pub is_unwritten : SlotKind → Bool
-is_unwritten (Unwritten word) = true
-is_unwritten kind = false
-
--- why an image is not written to the slot at a place, whatever stands on the machine: the slot is read-only, the image an archive, or the slot's type is not written to
-abbrev pub refusal_of : ℕ → Slot → List ℕ → Option SlotRefusal
-refusal_of at slot image =
-    if slot.readonly then Some (ReadOnly at)
-    else (if is_archive image then Some (ArchiveImage image)
-    else (if is_unwritten slot.kind then Some (WrongType at) else None))
-
-abbrev pub refusal_at : List Slot → ℕ → List ℕ → Option SlotRefusal
-refusal_at slots at image = option_and_then (λ slot. refusal_of at slot image) (slice_get slots at)
-
 -- this refusal, or else the answer
 abbrev pub unless : Option SlotRefusal → Result SlotWritten SlotRefusal → Result SlotWritten SlotRefusal
 unless (Some refusal) answer = Err refusal
 unless None answer = answer
 
 -- the answer for the slot at a place
-abbrev pub at_answer : List Slot → List ℕ → World → ℕ → Result SlotWritten SlotRefusal
-at_answer slots image w at = unless (refusal_at slots at image) (put_answer at image (device_at slots at) w)
+abbrev pub at_answer : List Slot → Option (List ℕ) → List ℕ → World → ℕ → Result SlotWritten SlotRefusal
+at_answer slots given image w at = unless (refusal_at slots given at image w) (put_answer at image (device_at slots at) w)
 
-abbrev pub answer_at : List Slot → List ℕ → List ℕ → World → Option ℕ → Result SlotWritten SlotRefusal
-answer_at slots name image w (Some at) = at_answer slots image w at
-answer_at slots name image w None = Err (NoSuchSlot name)
+abbrev pub answer_at : List Slot → Option (List ℕ) → List ℕ → List ℕ → World → Option ℕ → Result SlotWritten SlotRefusal
+answer_at slots given name image w (Some at) = at_answer slots given image w at
+answer_at slots given name image w None = Err (NoSuchSlot name)
 
 -- the place of the slot of this name
 abbrev pub slot_named : List Slot → List ℕ → Option ℕ
 slot_named slots name = position (λ s. bytes_eq s.name name) slots
 
--- the answer of write-slot: what was written, or the first refusal
-abbrev pub slot_answer : List Slot → List ℕ → List ℕ → World → Result SlotWritten SlotRefusal
-slot_answer slots name image w = answer_at slots name image w (slot_named slots name)
+-- the answer of write-slot: what was written, or the first refusal, with the name that counts as booted where one is given
+abbrev pub slot_answer : List Slot → Option (List ℕ) → List ℕ → List ℕ → World → Result SlotWritten SlotRefusal
+slot_answer slots given name image w = answer_at slots given name image w (slot_named slots name)
 
 -- the device of the slot of this name
 abbrev pub slot_device : List Slot → List ℕ → List ℕ

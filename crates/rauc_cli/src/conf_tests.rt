@@ -222,7 +222,7 @@ fn push_slot(alloc: Global, text: &mut String, number: u8) -> Result<(), AllocEr
 #[test]
 fn writes_to_the_last_of_64_slots(rt: HostRuntime) -> Result<(), Fail> {
     let alloc = rt.alloc();
-    let mut conf = with_slots(alloc, 63, "")?;
+    let mut conf = with_slots(alloc, 62, FIRST)?;
     conf.push_str("[slot.rootfs.1]\ndevice=/dev/b\n")?;
     assert!(rt; writes(alloc, "rootfs.1", conf.as_str())?);
     Ok(())

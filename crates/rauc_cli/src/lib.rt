@@ -2,6 +2,7 @@
 #![tactic(auto)]
 
 mod archive;
+mod checks;
 mod conf;
 mod lines;
 mod outcome;
@@ -14,6 +15,8 @@ pub use rauc_words::{Asked, Command, Place, read_words};
 pub use run::rauc;
 pub use slots::write_slot;
 
+#[cfg(test)]
+mod busy_tests;
 #[cfg(test)]
 mod conf_tests;
 #[cfg(test)]

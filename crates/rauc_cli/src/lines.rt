@@ -229,12 +229,16 @@ fn slot_cause(
             let text = text.as_str();
             format!(in alloc; "no such slot: {text}")
         }
+        SlotRefusal::BootedUnknown => String::from_str(alloc, "booted slot is not known"),
+        SlotRefusal::Busy { .. } => format!(in alloc; "slot {slot} is in use"),
         SlotRefusal::ReadOnly { .. } => format!(in alloc; "slot {slot} is readonly"),
         SlotRefusal::ArchiveImage { image } => {
             let image = image.as_str();
             format!(in alloc; "image {image} is an archive")
         }
         SlotRefusal::WrongType { .. } => format!(in alloc; "slot {slot} cannot be written"),
+        SlotRefusal::MountsUnread => String::from_str(alloc, "mounts unreadable"),
+        SlotRefusal::Mounted { .. } => format!(in alloc; "slot {slot} is mounted"),
         SlotRefusal::Image(refusal) => put_cause(alloc, image, refusal),
     }
 }

@@ -1,4 +1,4 @@
-ghost use Rattle.std.specs.Prelude.{◌≤◌, ℕ, List, IfOk, Some};
+ghost use Rattle.std.specs.Prelude.{◌≡◌, ◌≤◌, ℕ, List, IfOk, Some, option_map};
 ghost use Rattle.machine.specs.Past.{now};
 ghost use Rattle.system_conf.specs.Reads.{shown};
 ghost use Rattle.rauc_words.specs.Table.{command_of};
@@ -10,7 +10,7 @@ ghost use Rattle.rauc_cli.specs.Ends.{Caused, Complete, Ended, Finished, Names, 
 use crate::lines::{failed, failing, help_report, written_report};
 use crate::outcome::{Report, SlotWritten};
 use crate::{
-    Asked, BadConf, Command, Finish, Outcome, SlotRefusal, read_conf, read_words, write_slot,
+    Asked, BadConf, Command, Finish, Outcome, Place, SlotRefusal, read_conf, read_words, write_slot,
 };
 use keyfile::KeyFault;
 use machine::{Machine, ReadStop};
@@ -39,21 +39,32 @@ fn slot_report(
     }
 }
 
+// The name of the slot that counts as booted, where the words give one.
+fn given_in(place: &Place) -> Option<&str>
+    ensures { option_map (λ name. name.now) result ≡ place.now.given }
+{
+    match &place.given {
+        Some(name) => Some(name.as_str()),
+        None => None,
+    }
+}
+
 fn run_write_slot<M: Machine>(
     alloc: Global,
     m: &mut M,
     command: &Command,
     system: &System,
+    given: Option<&str>,
     slot: &str,
     image: &str,
 ) -> Result<Report, NoMemory>
     requires { Names command.now slot.now image.now }
-    ensures ended { Ended M.tells (slot_plan command.now slot.now image.now (slot_device system.now.slots slot.now) (slot_answer system.now.slots slot.now image.now (now (M.past m.old)))) (M.past m.old) (M.past m.new) result }
+    ensures ended { Ended M.tells (slot_plan command.now slot.now image.now (slot_device system.now.slots slot.now) (slot_answer system.now.slots (option_map (λ name. name.now) given.entry) slot.now image.now (now (M.past m.old)))) (M.past m.old) (M.past m.new) result }
     ensures spoken { IfOk result (Speaks (Some (Run command.now))) }
     ensures cause { Caused (Some (Run command.now)) (M.faults m.old) (M.faults m.new) (outcome_in result) }
     ensures wants { M.wants m.old ≤ M.wants m.new }
 {
-    let written = write_slot(alloc, m, system, slot, image);
+    let written = write_slot(alloc, m, system, given, slot, image);
     slot_report(alloc, command, slot, written)
 }
 
@@ -70,8 +81,10 @@ fn run_command<M: Machine>(
     ensures wants { M.wants m.old ≤ M.wants m.new }
 {
     match command {
-        Command::WriteSlot { slot, image, .. } => {
-            run_write_slot(alloc, m, command, system, slot.as_str(), image.as_str())
+        Command::WriteSlot { place, slot, image } => {
+            let given = given_in(place);
+            let slot = slot.as_str();
+            run_write_slot(alloc, m, command, system, given, slot, image.as_str())
         }
     }
 }

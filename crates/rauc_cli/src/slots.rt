@@ -1,16 +1,17 @@
-ghost use Rattle.std.specs.Prelude.{◌≡◌, IsTrue, IfOk};
-ghost use Rattle.machine.specs.Past.{Always, Fails, now};
-ghost use Rattle.machine.specs.Stops.{StopCounted, stop_fault};
-ghost use Rattle.rauc_cli.specs.Slots.{Puts, at_answer, device_at, image_stop, put_answer, refusal_at, refusal_of, slot_answer, slot_device, whole_answer};
+ghost use Rattle.std.specs.Prelude.{◌≡◌, ◌<◌, length, option_map};
+ghost use Rattle.machine.specs.Past.{now};
+ghost use Rattle.machine.specs.Stops.{StopCounted};
+ghost use Rattle.rauc_cli.specs.Checks.{RunningKept, booted_in};
+ghost use Rattle.rauc_cli.specs.Slots.{Puts, at_answer, device_at, image_stop, put_answer, slot_answer, slot_device, whole_answer};
 
 use crate::SlotRefusal;
-use crate::archive::is_archive;
+use crate::checks::check_slot;
 use crate::outcome::SlotWritten;
 use machine::Machine;
 use raw_writer::{PutRefusal, WholeStop, check_image, write_whole};
 use std::alloc::Global;
-use system_conf::{Slot, SlotKind, System};
-use updater_text::{Digest, NoMemory, Stop, Text};
+use system_conf::{Slot, System};
+use updater_text::{Digest, Stop, Text};
 
 /// How many bytes are read and written at a time.
 const PIECE: usize = 65_536;
@@ -81,76 +82,47 @@ fn device_at(slots: &[Slot], at: usize) -> &str
     }
 }
 
-// Why the image is not written to the slot at this place, whatever stands on the machine.
-fn refusal_of(
-    alloc: Global,
-    at: usize,
-    slot: &Slot,
-    image: &str,
-) -> Result<Option<SlotRefusal>, NoMemory>
-    ensures { IfOk result (λ refusal. refusal ≡ refusal_of at slot.now image.now) }
-{
-    if slot.readonly {
-        return Ok(Some(SlotRefusal::ReadOnly { slot: at }));
-    }
-    if is_archive(image) {
-        let image = Text::new(alloc, image)?;
-        return Ok(Some(SlotRefusal::ArchiveImage { image }));
-    }
-    match slot.kind {
-        SlotKind::Unwritten(_) => Ok(Some(SlotRefusal::WrongType { slot: at })),
-        _ => Ok(None),
-    }
-}
-
-fn refusal_at(
-    alloc: Global,
-    slots: &[Slot],
-    at: usize,
-    image: &str,
-) -> Result<Option<SlotRefusal>, NoMemory>
-    ensures { IfOk result (λ refusal. refusal ≡ refusal_at slots.now at image.now) }
-{
-    match slots.get(at) {
-        Some(slot) => refusal_of(alloc, at, slot, image),
-        None => Ok(None),
-    }
-}
-
-// Writes the image to the slot at this place, unless the slot or the image's name refuses it.
+// Writes the image to the slot at this place, unless that is refused.
 fn write_at<M: Machine>(
     alloc: Global,
     m: &mut M,
-    slots: &[Slot],
+    system: &System,
+    given: Option<&str>,
     at: usize,
     image: &str,
 ) -> Result<SlotWritten, Stop<SlotRefusal>>
-    ensures put { Puts M.tells image.now (device_at slots.now at) (at_answer slots.now image.now (now (M.past m.old)) at) (M.past m.old) (M.past m.new) result }
+    requires { at < length system.now.slots }
+    ensures put { Puts M.tells image.now (device_at system.now.slots at) (at_answer system.now.slots (option_map (λ name. name.now) given.entry) image.now (now (M.past m.old)) at) (M.past m.old) (M.past m.new) result }
     ensures counts { StopCounted (M.faults m.old) (M.faults m.new) (M.wants m.old) (M.wants m.new) result }
 {
-    match refusal_at(alloc, slots, at, image) {
-        Ok(None) => write_on(alloc, m, at, device_at(slots, at), image),
-        Ok(Some(refusal)) => Err(Stop::Refused(refusal)),
-        Err(NoMemory) => Err(Stop::NoMemory),
+    match check_slot(alloc, m, system, given, at, image) {
+        Ok(()) => write_on(alloc, m, at, device_at(system.slots.as_slice(), at), image),
+        Err(stop) => Err(stop),
     }
 }
 
 /// Writes an image whole to the front of the device of the slot of this name. In this order:
-/// `NoSuchSlot` where no slot has the name; `ReadOnly` where the slot is configured so;
-/// `ArchiveImage` where the image's path names an archive; `WrongType` where the slot's type is not
-/// written to; the refusals of the image's check; `ImageSize` where the image grew shorter since.
+/// `NoSuchSlot` where no slot has the name; `BootedUnknown` where neither the given name nor, where
+/// none is given, the kernel's command line tells what is booted, also where that file is missing or
+/// has more than 65,536 bytes; `Busy` where the slot or its root is booted; `ReadOnly` where the slot
+/// is configured so; `ArchiveImage` where the image's path names an archive; `WrongType` where the
+/// slot's type is not written to; `MountsUnread` where `/proc/mounts` is missing or has more than
+/// 1,048,576 bytes; `Mounted` where the slot's device is mounted, also where the configuration allows
+/// that; the refusals of the image's check; `ImageSize` where the image grew shorter since.
 pub fn write_slot<M: Machine>(
     alloc: Global,
     m: &mut M,
     system: &System,
+    given: Option<&str>,
     slot: &str,
     image: &str,
 ) -> Result<SlotWritten, Stop<SlotRefusal>>
-    ensures put { Puts M.tells image.now (slot_device system.now.slots slot.now) (slot_answer system.now.slots slot.now image.now (now (M.past m.old))) (M.past m.old) (M.past m.new) result }
+    ensures put { Puts M.tells image.now (slot_device system.now.slots slot.now) (slot_answer system.now.slots (option_map (λ name. name.now) given.entry) slot.now image.now (now (M.past m.old))) (M.past m.old) (M.past m.new) result }
+    ensures running { RunningKept M.tells system.now.slots (booted_in system.now.slots (option_map (λ name. name.now) given.entry) (now (M.past m.old))) (M.past m.old) (M.past m.new) }
     ensures counts { StopCounted (M.faults m.old) (M.faults m.new) (M.wants m.old) (M.wants m.new) result }
 {
     match system.slot_named(slot) {
-        Some(at) => write_at(alloc, m, system.slots.as_slice(), at, image),
+        Some(at) => write_at(alloc, m, system, given, at, image),
         None => match Text::new(alloc, slot) {
             Ok(text) => Err(Stop::Refused(SlotRefusal::NoSuchSlot { text })),
             Err(_) => Err(Stop::NoMemory),

@@ -18,6 +18,10 @@ pub(crate) struct Case<'a> {
     pub words: &'a [&'a str],
     pub conf: &'a str,
     pub image: &'a [u8],
+    /// What stands in `/proc/cmdline` and `/proc/mounts`, and which of them is not there, if any.
+    pub cmdline: &'a [u8],
+    pub mounts: &'a [u8],
+    pub missing: &'a str,
     /// The length of each device in bytes.
     pub device: usize,
     /// The numbers of the calls of the machine that fail, and of the puts on the output.
@@ -73,6 +77,14 @@ fn machine_of(alloc: Global, case: Case<'_>) -> Result<MemoryMachine, NoMemory> 
     let mut files = Items::new(alloc);
     files.push(named(alloc, "/c", Vec::from_slice(alloc, case.conf.as_bytes())?)?)?;
     files.push(named(alloc, "/r.img", Vec::from_slice(alloc, case.image)?)?)?;
+    for (path, bytes) in [
+        ("/proc/cmdline", case.cmdline),
+        ("/proc/mounts", case.mounts),
+    ] {
+        if path != case.missing {
+            files.push(named(alloc, path, Vec::from_slice(alloc, bytes)?)?)?;
+        }
+    }
     let fails = Vec::from_slice(alloc, case.fails)?;
     Ok(MemoryMachine::new(alloc, disks, files, fails))
 }
@@ -143,6 +155,9 @@ pub(crate) fn write<'a>(image: &'a [u8], line: &'a str) -> Case<'a> {
         words: &WORDS,
         conf: CONF,
         image,
+        cmdline: b"quiet rauc.slot=A\n",
+        mounts: b"",
+        missing: "",
         device: 16,
         fails: &[],
         out_fails: &[],
@@ -222,8 +237,8 @@ fn writes_in_pieces(rt: HostRuntime) -> Result<(), Fail> {
 
 #[test]
 fn stops_at_a_piece(rt: HostRuntime) -> Result<(), Fail> {
-    // The seventh call is the second write.
-    let seen = write_pieces(rt.alloc(), &[7], "", "rauc: outside fault: write\n")?;
+    // The ninth call is the second write.
+    let seen = write_pieces(rt.alloc(), &[9], "", "rauc: outside fault: write\n")?;
     assert_eq!(rt; seen.status, 2);
     assert!(rt; seen.said && seen.kept);
     assert_eq!(rt; seen.writes, 1);
@@ -284,11 +299,13 @@ fn refuses_other_words(rt: HostRuntime) -> Result<(), Fail> {
 fn names_a_call_that_failed(rt: HostRuntime) -> Result<(), Fail> {
     let rows = [
         (1, "rauc: outside fault: read\n"),
-        (2, "rauc: outside fault: size\n"),
-        (3, "rauc: outside fault: size\n"),
-        (4, "rauc: outside fault: read\n"),
-        (5, "rauc: outside fault: write\n"),
-        (6, "rauc: outside fault: sync\n"),
+        (2, "rauc: outside fault: read\n"),
+        (3, "rauc: outside fault: read\n"),
+        (4, "rauc: outside fault: size\n"),
+        (5, "rauc: outside fault: size\n"),
+        (6, "rauc: outside fault: read\n"),
+        (7, "rauc: outside fault: write\n"),
+        (8, "rauc: outside fault: sync\n"),
     ];
     for (number, line) in rows {
         let fails = [number];

@@ -20,7 +20,7 @@ const WRITES: [&str; 10] = [
     "write-slot rootfs.1 /r.img -c /c",
     "write-slot -c /c -- rootfs.1 /r.img",
     "--override-boot-slot=A -c /c write-slot rootfs.1 /r.img",
-    "--override-boot-slot - -c /c write-slot rootfs.1 /r.img",
+    "--override-boot-slot rootfs.0 -c /c write-slot rootfs.1 /r.img",
 ];
 
 const HELPS: [&str; 7] = [
@@ -70,7 +70,7 @@ const REFUSED: [&str; 32] = [
 ];
 
 // Words and the line that is put: values that begin with `-`, and the configuration by default.
-const VALUES: [(&str, &str); 6] = [
+const VALUES: [(&str, &str); 7] = [
     (
         "write-slot rootfs.1 /r.img",
         "rauc: no configuration /etc/rauc/system.conf\n",
@@ -88,6 +88,10 @@ const VALUES: [(&str, &str); 6] = [
         "rauc: no configuration =/c\n",
     ),
     ("write-slot -c /c - /r.img", "rauc: no such slot: -\n"),
+    (
+        "--override-boot-slot - -c /c write-slot rootfs.1 /r.img",
+        "rauc: booted slot is not known\n",
+    ),
     (
         "write-slot -c /c -- --help /r.img",
         "rauc: no such slot: --help\n",

@@ -1,0 +1,17 @@
+use Rattle.std.proofs.Common.{◌≡◌, ap, option_map}
+use Rattle.machine.specs.declared.world.World.{World}
+use Rattle.machine.specs.Past.{now}
+use Rattle.rauc_cli.specs.Checks.{refusal_at}
+use Rattle.rauc_cli.specs.Slots.{device_at, put_answer}
+use Rattle.rauc_cli.proofs.Putting.{puts_after, puts_refused}
+use Rattle.rauc_cli.proofs.slots.write_at.Goals as goal
+
+pub returns-in-Ok-clause-put : goal.returns-in-Ok-clause-put
+returns-in-Ok-clause-put g c =
+    puts_after _ c.args.image.now (device_at c.args.system.now.slots c.args.at) _ _ _ _ _ _ _ c.write_on.result c.in-Ok.ensures.finds
+    (λ same. ap (λ (w : World). put_answer c.args.at c.args.image.now (device_at c.args.system.now.slots c.args.at) w) same)
+    (rw (c.device_at.ensures, c.as_slice.ensures) at c.write_on.ensures.put)
+
+pub returns-in-Err-clause-put : goal.returns-in-Err-clause-put
+returns-in-Err-clause-put g c =
+    puts_refused _ c.args.image.now (device_at c.args.system.now.slots c.args.at) _ _ _ _ c.in-Err.stop c.in-Err.ensures.finds
