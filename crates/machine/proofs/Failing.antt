@@ -6,8 +6,12 @@ use Rattle.machine.specs.declared.calls.CallStop.{CallStop}
 use Rattle.machine.specs.declared.calls.CallStop.TheVariants.{Failed, NoMemory}
 use Rattle.machine.specs.declared.calls.ReadStop.{ReadStop}
 use Rattle.machine.specs.declared.calls.ReadStop.TheVariants as read
-use Rattle.machine.specs.Past.{Call, File, End, Done, Broken, Overlong, Moment, Past, now, made, Grows, Did, kind_of, failed_or, first_failed, last_failed, failed_since, Fails}
-use Rattle.machine.specs.Calls.{Ends, FileEnds, call_fault, file_fault}
+use Rattle.machine.specs.declared.calls.RunStop.{RunStop}
+use Rattle.machine.specs.declared.calls.RunStop.TheVariants as run
+use Rattle.machine.specs.declared.world.Child.{Child}
+use Rattle.machine.specs.declared.world.Exit.{Exit}
+use Rattle.machine.specs.Past.{Call, File, Run, End, Done, Broken, Overlong, Moment, Past, now, made, Grows, Did, kind_of, failed_or, first_failed, last_failed, failed_since, Fails}
+use Rattle.machine.specs.Calls.{Ends, FileEnds, RunEnds, call_fault, file_fault, run_fault}
 use Rattle.machine.proofs.Moments.{made_more, made_none, made_joins, grows_refl, grows_trans, did_grows}
 
 failed_or-append : (end : End) (kind : Fault) (later after all : Option Fault) → (later ≡ None → all ≡ after) → failed_or end kind later ≡ None → failed_or end kind all ≡ after
@@ -73,3 +77,8 @@ fails_file t a b path (Ok x) ends = one_fails t a b (File path) Done ends
 fails_file t a b path (Err read.Failed) ends = one_fails t a b (File path) Broken ends
 fails_file t a b path (Err (read.TooLong n)) ends = one_fails t a b (File path) Overlong ends
 fails_file t a b path (Err read.NoMemory) ends = same_fails t a b ends
+
+pub fails_run : (t : Bool) (a b : Past) (child : Child) (result : Result Exit RunStop) → (IsTrue t → RunEnds a b child result) → Fails t a b (run_fault result)
+fails_run t a b child (Ok exit) ends = one_fails t a b (Run child) Done (λ told. (ends told).0)
+fails_run t a b child (Err run.Failed) ends = one_fails t a b (Run child) Broken ends
+fails_run t a b child (Err run.NoMemory) ends = same_fails t a b ends

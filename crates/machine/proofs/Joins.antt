@@ -1,10 +1,10 @@
 -- Reads, one after another.
-use Rattle.std.proofs.Common.{◌≡◌, ℕ, Bool, List, Result, Ok, Err, IsTrue, refl, sym, ◌∙◌, ap, subst, arith}
+use Rattle.std.proofs.Common.{◌≡◌, ℕ, ℤ, Bool, List, Result, Ok, Err, IsTrue, refl, sym, ◌∙◌, ap, subst, arith}
 use Rattle.machine.specs.declared.world.World.{World}
 use Rattle.machine.specs.declared.calls.CallStop.{CallStop}
 use Rattle.machine.specs.declared.calls.ReadStop.{ReadStop}
 use Rattle.machine.specs.declared.calls.ReadStop.TheVariants as read
-use Rattle.machine.specs.Past.{Size, File, End, Done, Broken, Overlong, After, Past, now, Always, Did}
+use Rattle.machine.specs.Past.{Size, File, Clock, End, Done, Broken, Overlong, After, Past, now, Always, Did}
 use Rattle.machine.specs.Calls.{Ends, FileEnds}
 use Rattle.machine.specs.Frames.{IsRead, OnlyReads, Unchanged}
 use Rattle.machine.proofs.Moments.{always_start, always_joins, always_now, always_weaker, always_did, always_ends}
@@ -57,6 +57,17 @@ size_after path w Overlong v h = h
 pub unchanged_size : {T : Type 0} (t : Bool) (a b : Past) (path : List ℕ) (result : Result T CallStop) → (IsTrue t → Ends a b (Size path) result) → Unchanged t a b
 unchanged_size t a b path result ends = record {
   all = λ told. always_ends a b (Size path) (λ u. u ≡ now a) result (ends told) refl (λ u h. h) (λ end v h. size_after path (now a) end v h);
+}
+
+-- a look at the clock
+clock_after : (seconds : ℤ) (w : World) (end : End) (v : World) → After (Clock seconds) end w v → v ≡ w
+clock_after seconds w Done v h = h
+clock_after seconds w Broken v h = h
+clock_after seconds w Overlong v h = h
+
+pub unchanged_clock : {T : Type 0} (t : Bool) (a b : Past) (seconds : ℤ) (result : Result T CallStop) → (IsTrue t → Ends a b (Clock seconds) result) → Unchanged t a b
+unchanged_clock t a b seconds result ends = record {
+  all = λ told. always_ends a b (Clock seconds) (λ u. u ≡ now a) result (ends told) refl (λ u h. h) (λ end v h. clock_after seconds (now a) end v h);
 }
 
 -- the reading of a whole file

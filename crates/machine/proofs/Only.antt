@@ -75,7 +75,7 @@ pub disk-written : (w : World) (device : List ℕ) (at : ℕ) (bytes old : List 
 unfolding written
 disk-written w device at bytes old is = bytes_under-patch_same w.disks device at bytes old is
 
-disk-written_other : (w : World) (device path : List ℕ) (at : ℕ) (bytes : List ℕ) → path ≢ device → disk (written w device at bytes) path ≡ disk w path
+pub disk-written_other : (w : World) (device path : List ℕ) (at : ℕ) (bytes : List ℕ) → path ≢ device → disk (written w device at bytes) path ≡ disk w path
 unfolding written
 disk-written_other w device path at bytes ne = bytes_under-patch_other w.disks device path at bytes ne
 

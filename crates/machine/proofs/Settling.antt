@@ -1,5 +1,6 @@
 -- The answer to a call, from what was noted of it.
 use Rattle.std.proofs.Common.{◌≡◌, ℕ, Bool, true, false, List, Option, Some, None, Result, Ok, Err, OnOk, OnErr, IfOk, IsTrue, refl, sym, ◌∙◌, ap, subst}
+use Rattle.std.specs.Prelude.{ℤ, pos}
 use Rattle.std.specs.Result.{result_unwrap_or}
 use Rattle.machine.specs.declared.calls.CallStop.{CallStop}
 use Rattle.machine.specs.declared.calls.CallStop.TheVariants.{Failed, NoMemory}
@@ -8,7 +9,7 @@ use Rattle.machine.specs.declared.calls.ReadStop.TheVariants as read
 use Rattle.machine.specs.declared.memory.notes.Whole.{Whole}
 use Rattle.machine.specs.declared.memory.notes.Whole.TheVariants.{Bytes, TooLong}
 use Rattle.machine.specs.declared.memory.log.UndoLog.{UndoLog}
-use Rattle.machine.specs.Past.{Call, File, Read, End, Did}
+use Rattle.machine.specs.Past.{Call, Clock, File, Read, End, Broken, Did}
 use Rattle.machine.specs.Calls.{Ends, FileEnds, ReadsFile}
 use Rattle.machine.specs.Whole.{WholeFound, end_whole}
 use Rattle.machine.specs.Logged.{Kept, Noted, end_if, told_by}
@@ -53,6 +54,14 @@ module _ (old new last : UndoLog) (fails : Bool) (faults faults' wants wants' : 
   settled_read path (Err e) (Ok x) s ok failed err = let bad : Err e ≡ Ok x = s.0 in cc
   settled_read path (Err e) (Err Failed) s ok failed err = let bad : false ≡ true = s.0 in cc
   settled_read path (Err e) (Err NoMemory) s ok failed err = kept_now err
+
+  -- a look at the clock, which failed
+  pub settled_clock : {E : Type 0} (noted : Result ℤ E) (result : Result ℤ CallStop) → fails ≡ true → Settled noted fails faults faults' wants wants' result → OnOk noted (Noted old new (Clock (pos 0)) Broken) → OnErr noted (Kept old new) → Ends (told_by old) (told_by last) (Clock (result_unwrap_or result (pos 0))) result
+  settled_clock noted (Ok x) is s ok err = let bad : true ≡ false = sym is ∙ s.1 in cc
+  settled_clock (Ok y) (Err Failed) is s ok err = done_now (Clock (pos 0)) Broken ok
+  settled_clock (Ok y) (Err NoMemory) is s ok err = let bad : false ≡ true = s.0 in cc
+  settled_clock (Err e) (Err Failed) is s ok err = let bad : false ≡ true = s.0 in cc
+  settled_clock (Err e) (Err NoMemory) is s ok err = kept_now err
 
 -- the answer of a whole file
 abbrev pub whole_answer : Result Whole CallStop → Result (Option (List ℕ)) ReadStop

@@ -4,7 +4,7 @@ use Rattle.std.proofs.lemmas.List.{reverse-append}
 use Rattle.machine.specs.declared.world.World.{World}
 use Rattle.machine.specs.declared.memory.notes.Note.{Note}
 use Rattle.machine.specs.declared.memory.log.UndoLog.{UndoLog}
-use Rattle.machine.specs.Past.{Call, File, Size, Read, Write, Sync, End, Done, Broken, Overlong, After, now, more, Did}
+use Rattle.machine.specs.Past.{Call, File, Size, Read, Write, Sync, Replace, Run, Clock, End, Done, Broken, Overlong, After, now, more, Did}
 use Rattle.machine.specs.Undo.{Left, call_of, end_of, moment_of, past_back, past_of, undone}
 use Rattle.machine.specs.Logged.{Kept, Noted, told_by}
 use Rattle.machine.proofs.Moments.{now-more}
@@ -30,11 +30,17 @@ left_after (Size path) Broken w v h = h
 left_after (Read path count) Broken w v h = h
 left_after (Write path at count) Broken w v h = inl h
 left_after (Sync path) Broken w v h = h
+left_after (Replace path bytes) Broken w v h = inl h
+left_after (Run child) Broken w v h = h
+left_after (Clock seconds) Broken w v h = h
 left_after (File path) Overlong w v h = h
 left_after (Size path) Overlong w v h = h
 left_after (Read path count) Overlong w v h = h
 left_after (Write path at count) Overlong w v h = h
 left_after (Sync path) Overlong w v h = h
+left_after (Replace path bytes) Overlong w v h = h
+left_after (Run child) Overlong w v h = h
+left_after (Clock seconds) Overlong w v h = h
 
 -- what the trait asks of a call
 pub did_note : (w w' : World) (notes : List Note) (n : Note) → undone w' n ≡ w → Left (call_of n.undo) (end_of n.outcome) w w' → Did (past_of w notes) (past_of w' (notes ++ n ∷ [])) (call_of n.undo) (end_of n.outcome)

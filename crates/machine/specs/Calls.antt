@@ -1,5 +1,5 @@
 -- What the calls on a machine leave of its past and its counts, and what they answer.
-use Rattle.std.specs.Prelude.{◌≡◌, ◌≤◌, ◌<◌, ◌+◌, ◌^◌, ℕ, Bool, IsTrue, IfSome, List, length, take, drop, Option, Some, None, Result, Ok, Err}
+use Rattle.std.specs.Prelude.{◌≡◌, ◌≤◌, ◌<◌, ◌+◌, ◌^◌, ℕ, Bool, IsTrue, IfSome, List, [], ◌∷◌, ◌++◌, length, take, drop, Option, Some, None, Result, Ok, Err}
 use Rattle.updater_text.specs.Counts.{Rose}
 use Rattle.updater_text.specs.declared.stops.Fault.{Fault}
 use Rattle.updater_text.specs.declared.stops.Fault.TheVariants as fault
@@ -7,8 +7,12 @@ use Rattle.machine.specs.declared.calls.CallStop.{CallStop}
 use Rattle.machine.specs.declared.calls.CallStop.TheVariants.{Failed, NoMemory}
 use Rattle.machine.specs.declared.calls.ReadStop.{ReadStop}
 use Rattle.machine.specs.declared.calls.ReadStop.TheVariants as read
+use Rattle.machine.specs.declared.calls.RunStop.{RunStop}
+use Rattle.machine.specs.declared.calls.RunStop.TheVariants as run
+use Rattle.machine.specs.declared.world.Child.{Child}
+use Rattle.machine.specs.declared.world.Exit.{Exit}
 use Rattle.machine.specs.World.{Holds}
-use Rattle.machine.specs.Past.{Call, File, Done, Broken, Overlong, Past, now, Did}
+use Rattle.machine.specs.Past.{Call, File, Run, Done, Broken, Overlong, Past, now, Did}
 
 -- the past after a call; a call that wanted memory is no moment of it
 abbrev pub Ends : {T : Type 0} → Past → Past → Call → Result T CallStop → Type 0
@@ -23,6 +27,12 @@ FileEnds old new path (Err read.Failed) = Did old new (File path) Broken
 FileEnds old new path (Err (read.TooLong n)) = Did old new (File path) Overlong
 FileEnds old new path (Err read.NoMemory) = new ≡ old
 
+-- the same after the run of a child, which stands last in the runs with its end
+abbrev pub RunEnds : Past → Past → Child → Result Exit RunStop → Type 0
+RunEnds old new child (Ok exit) = Did old new (Run child) Done × ((now new).runs ≡ (now old).runs ++ record { child = child; exit = exit } ∷ [])
+RunEnds old new child (Err run.Failed) = Did old new (Run child) Broken
+RunEnds old new child (Err run.NoMemory) = new ≡ old
+
 -- counts never fall; a call fails only where that of faults rose, and wants memory only where that of wants rose
 abbrev pub Counted : {T : Type 0} → ℕ → ℕ → ℕ → ℕ → Result T CallStop → Type 0
 Counted faults faults' wants wants' (Ok x) = (faults ≤ faults') × (wants ≤ wants')
@@ -34,6 +44,16 @@ FileCounted faults faults' wants wants' (Ok x) = (faults ≤ faults') × (wants 
 FileCounted faults faults' wants wants' (Err (read.TooLong n)) = (faults ≤ faults') × (wants ≤ wants')
 FileCounted faults faults' wants wants' (Err read.Failed) = Rose faults faults' × (wants ≤ wants')
 FileCounted faults faults' wants wants' (Err read.NoMemory) = (faults ≤ faults') × Rose wants wants'
+
+abbrev pub RunCounted : {T : Type 0} → ℕ → ℕ → ℕ → ℕ → Result T RunStop → Type 0
+RunCounted faults faults' wants wants' (Ok x) = (faults ≤ faults') × (wants ≤ wants')
+RunCounted faults faults' wants wants' (Err run.Failed) = Rose faults faults' × (wants ≤ wants')
+RunCounted faults faults' wants wants' (Err run.NoMemory) = (faults ≤ faults') × Rose wants wants'
+
+-- of each stream of a child so much is kept at most
+pub record IsKept (exit : Exit) : Type 0 where
+  pub out : length exit.out ≤ 65536
+  pub err : length exit.err ≤ 65536
 
 -- the file's bytes, or None for no file; too long exactly where it is longer than the limit
 abbrev pub Found : Option (List ℕ) → ℕ → Result (Option (List ℕ)) ReadStop → Type 0
@@ -90,3 +110,8 @@ file_fault (Ok x) = None
 file_fault (Err read.Failed) = Some fault.Read
 file_fault (Err (read.TooLong n)) = None
 file_fault (Err read.NoMemory) = None
+
+abbrev pub run_fault : {T : Type 0} → Result T RunStop → Option Fault
+run_fault (Ok x) = None
+run_fault (Err run.Failed) = Some fault.Run
+run_fault (Err run.NoMemory) = None

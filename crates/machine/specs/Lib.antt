@@ -1,5 +1,6 @@
 pub mod World
 pub mod Crash
+pub mod Spares
 pub mod Past
 pub mod Calls
 pub mod Frames

@@ -1,18 +1,25 @@
 -- The past of a machine: its calls in order, each with its end and the world after it.
-use Rattle.std.specs.Prelude.{◌≡◌, ◌≤◌, ◌⊎◌, ℕ, Bool, IsTrue, List, [], ◌∷◌, ◌++◌, length, take, drop, Option, Some, None}
+use Rattle.std.specs.Prelude.{◌≡◌, ◌≤◌, ◌⊎◌, ℕ, ℤ, Bool, IsTrue, List, [], ◌∷◌, ◌++◌, length, take, drop, Option, Some, None}
 use Rattle.updater_text.specs.declared.stops.Fault.{Fault}
 use Rattle.updater_text.specs.declared.stops.Fault.TheVariants as fault
+use Rattle.machine.specs.declared.world.Child.{Child}
+use Rattle.machine.specs.declared.world.Exit.{Exit}
 use Rattle.machine.specs.declared.world.World.{World}
-use Rattle.machine.specs.World.{written, synced, fetching}
+use Rattle.machine.specs.World.{written, synced, replaced, fetching}
 use Rattle.machine.specs.Crash.{Crash}
+use Rattle.machine.specs.Spares.{Spared}
 
--- a call with its arguments; of a write the place and length, of a read the number of bytes that it gave
+-- a call with its arguments; of a write the place and length, of a read the number of bytes that it
+-- gave, of the clock the seconds that it said
 pub data Call : Type 0 where
   File : (path : List ℕ) → Call
   Size : (path : List ℕ) → Call
   Read : (path : List ℕ) (count : ℕ) → Call
   Write : (path : List ℕ) (at count : ℕ) → Call
   Sync : (path : List ℕ) → Call
+  Replace : (path bytes : List ℕ) → Call
+  Run : (child : Child) → Call
+  Clock : (seconds : ℤ) → Call
 
 -- how a call ended: it was done, it failed, or the file was longer than asked for
 pub data End : Type 0 where
@@ -27,10 +34,17 @@ kind_of (Size path) = fault.Size
 kind_of (Read path count) = fault.Read
 kind_of (Write path at count) = fault.Write
 kind_of (Sync path) = fault.Sync
+kind_of (Replace path bytes) = fault.Replace
+kind_of (Run child) = fault.Run
+kind_of (Clock seconds) = fault.Clock
 
 -- v is w with a range of the disk written, with any bytes
 abbrev pub Scribbled : List ℕ → ℕ → ℕ → World → World → Type 0
 Scribbled path at count w v = (bytes : List ℕ) × (length bytes ≡ count) × (v ≡ written w path at bytes)
+
+-- v is w after the child: it left alone what it must, and is the last of the runs
+abbrev pub Ran : Child → Exit → World → World → Type 0
+Ran child exit w v = Spared child w v × (v.runs ≡ w.runs ++ record { child = child; exit = exit } ∷ [])
 
 -- the world v after a call that began in w
 abbrev pub After : Call → End → World → World → Type 0
@@ -38,11 +52,16 @@ After (Read path count) Done w v = v ≡ fetching w path count
 After (Write path at count) Done w v = Scribbled path at count w v
 After (Write path at count) Broken w v = (v ≡ w) ⊎ Scribbled path at count w v
 After (Sync path) Done w v = v ≡ synced w path
+After (Replace path bytes) Done w v = v ≡ replaced w path bytes
+After (Replace path bytes) Broken w v = (v ≡ w) ⊎ (v ≡ replaced w path bytes)
+After (Run child) Done w v = (exit : Exit) × Ran child exit w v
 After call end w v = v ≡ w
 
 -- a world u in which the power may stop inside a call that began in w
 abbrev pub Inside : Call → World → World → Type 0
 Inside (Write path at count) w u = Scribbled path at count w u
+Inside (Replace path bytes) w u = (u ≡ w) ⊎ (u ≡ replaced w path bytes)
+Inside (Run child) w u = Spared child w u × (u.runs ≡ w.runs)
 Inside call w u = u ≡ w
 
 pub record Moment : Type 0 where

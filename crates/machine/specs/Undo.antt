@@ -1,5 +1,5 @@
 -- An undo log: the past of a machine in memory, told back from the world as it is now.
-use Rattle.std.specs.Prelude.{◌≡◌, ◌-◌, List, [], ◌∷◌, length, take, reverse, is_some, if◌then◌else◌}
+use Rattle.std.specs.Prelude.{◌≡◌, ◌-◌, pos, List, [], ◌∷◌, length, take, reverse, is_some, if◌then◌else◌}
 use Rattle.machine.specs.declared.world.Span.{Span}
 use Rattle.machine.specs.declared.world.World.{World}
 use Rattle.machine.specs.declared.memory.notes.Undo.{Undo}
@@ -8,7 +8,7 @@ use Rattle.machine.specs.declared.memory.notes.Outcome.{Outcome}
 use Rattle.machine.specs.declared.memory.notes.Outcome.TheVariants as outcome
 use Rattle.machine.specs.declared.memory.notes.Note.{Note}
 use Rattle.machine.specs.World.{disk, patch_under}
-use Rattle.machine.specs.Past.{Call, File, Size, Read, Write, Sync, End, Done, Broken, Overlong, After, Moment, Past, more}
+use Rattle.machine.specs.Past.{Call, File, Size, Read, Write, Sync, Replace, Run, Clock, End, Done, Broken, Overlong, After, Moment, Past, more}
 
 -- the call that a note tells
 abbrev pub call_of : Undo → Call
@@ -17,6 +17,9 @@ call_of (undo.Size path) = Size path
 call_of (undo.Read path count) = Read path count
 call_of (undo.Write path at replaced) = Write path at (length replaced)
 call_of (undo.Sync path pending) = Sync path
+call_of (undo.Replace path bytes) = Replace path bytes
+call_of (undo.Run child) = Run child
+call_of undo.Clock = Clock (pos 0)
 
 -- its end
 abbrev pub end_of : Outcome → End
@@ -28,7 +31,7 @@ end_of outcome.TooLong = Overlong
 abbrev pub but_last : List Span → List Span
 but_last spans = take (length spans - 1) spans
 
--- the world before a call that was done
+-- the world before a call that was done; replacements, children and the clock never are
 abbrev pub taken_back : Undo → World → World
 taken_back (undo.File path) w = w
 taken_back (undo.Size path) w = w
@@ -39,6 +42,9 @@ taken_back (undo.Write path at replaced) w = record w {
   writes = but_last w.writes;
 }
 taken_back (undo.Sync path pending) w = record w { pending = pending }
+taken_back (undo.Replace path bytes) w = w
+taken_back (undo.Run child) w = w
+taken_back undo.Clock w = w
 
 -- the world before a call; one that was not done changed nothing
 abbrev pub before : Outcome → Undo → World → World

@@ -48,6 +48,12 @@ patch_under [] path at bytes = []
 patch_under (n ∷ ns) path at bytes =
     if bytes_eq n.path path then record n { bytes = patched n.bytes at bytes } ∷ ns else n ∷ patch_under ns path at bytes
 
+-- bytes put under a path: in the place of those that are there, else last
+abbrev pub put_under : List Named → List ℕ → List ℕ → List Named
+put_under [] path bytes = record { path = path; bytes = bytes } ∷ []
+put_under (n ∷ ns) path bytes =
+    if bytes_eq n.path path then record n { bytes = bytes } ∷ ns else n ∷ put_under ns path bytes
+
 -- a range of a disk was written: it is pending, and stands last in the writes
 unfoldable pub written : World → List ℕ → ℕ → List ℕ → World
 written w path at bytes = record w {
@@ -59,6 +65,10 @@ written w path at bytes = record w {
 -- a disk was synced: nothing of it is pending
 unfoldable pub synced : World → List ℕ → World
 synced w path = record w { pending = filter (λ s. not (bytes_eq s.path path)) w.pending }
+
+-- a file was put in the place of the one at the path, or made
+unfoldable pub replaced : World → List ℕ → List ℕ → World
+replaced w path bytes = record w { files = put_under w.files path bytes }
 
 -- so many bytes were read under a path; those of a file count
 unfoldable pub fetching : World → List ℕ → ℕ → World

@@ -1,9 +1,11 @@
-ghost use Rattle.std.specs.Prelude.{◌≡◌, ◌+◌, ℕ, Bool, length, IsTrue, IfOk};
+ghost use Rattle.std.specs.Prelude.{◌≡◌, ◌+◌, ℕ, Bool, false, pos, length, IsTrue, IfOk};
 ghost use Rattle.std.specs.Result.{result_unwrap_or};
 ghost use Rattle.machine.specs.World.{file, readable, size_of, written};
-ghost use Rattle.machine.specs.Past.{Past, Read, Size, Sync, Write, now};
-ghost use Rattle.machine.specs.Calls.{Counted, Ends, FileCounted, FileEnds, HasRoom, IsLong, ReadSome, ReadsFile};
+ghost use Rattle.machine.specs.Spares.{is_boot};
+ghost use Rattle.machine.specs.Past.{Clock, Past, Read, Replace, Size, Sync, Write, now};
+ghost use Rattle.machine.specs.Calls.{Counted, Ends, FileCounted, FileEnds, HasRoom, IsKept, IsLong, ReadSome, ReadsFile, RunCounted, RunEnds};
 
+use crate::{Child, Exit};
 use std::alloc::Global;
 use updater_text::Items;
 
@@ -23,8 +25,15 @@ pub enum ReadStop {
     NoMemory,
 }
 
-/// The calls through which the updater reaches the outside, one read, write or sync each. A machine
-/// may tell its world and its past; what a call does to them, and the worlds in which the power may
+/// Why a child gave no end: it was not started, or memory was wanting.
+#[derive(Clone, Copy, Debug, PartialEq, Eq)]
+pub enum RunStop {
+    Failed,
+    NoMemory,
+}
+
+/// The calls through which the updater reaches the outside, one read, write, sync, replacement or
+/// child each. A machine may tell its world and its past; what a call does to them, and the worlds in which the power may
 /// stop inside it, are its contract.
 pub trait Machine {
     /// Whether it tells its world and its past. It is of the type, so nothing changes it.
@@ -75,5 +84,24 @@ pub trait Machine {
     /// Makes what was written to a disk last through a crash.
     fn sync(&mut self, path: &str) -> Result<(), CallStop>
         ensures past { IsTrue tells → Ends (past self.old) (past self.new) (Sync path.now) result }
+        ensures counts { Counted (faults self.old) (faults self.new) (wants self.old) (wants self.new) result };
+
+    /// Puts a file with these bytes in the place of the one at the path, or makes it. It is the old
+    /// file or the new one at each moment, and after Ok the new one lasts through a crash.
+    fn file_replace(&mut self, path: &str, bytes: &[u8]) -> Result<(), CallStop>
+        ensures past { IsTrue tells → Ends (past self.old) (past self.new) (Replace path.now bytes.now) result }
+        ensures counts { Counted (faults self.old) (faults self.new) (wants self.old) (wants self.new) result };
+
+    /// Runs a program to its end, and keeps the first 65,536 bytes of what it puts out on each
+    /// stream. It leaves alone what it must spare. `Failed` tells that it was not started.
+    fn run(&mut self, alloc: Global, child: &Child) -> Result<Exit, RunStop>
+        requires { is_boot child.now.class ≡ false }
+        ensures past { IsTrue tells → RunEnds (past self.old) (past self.new) child.now result }
+        ensures counts { RunCounted (faults self.old) (faults self.new) (wants self.old) (wants self.new) result }
+        ensures kept { IfOk result IsKept };
+
+    /// What the clock says, in seconds since 1970.
+    fn now(&mut self) -> Result<i64, CallStop>
+        ensures past { IsTrue tells → Ends (past self.old) (past self.new) (Clock (result_unwrap_or result (pos 0))) result }
         ensures counts { Counted (faults self.old) (faults self.new) (wants self.old) (wants self.new) result };
 }

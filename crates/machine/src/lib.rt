@@ -3,12 +3,14 @@
 #![tactic(auto)]
 
 mod calls;
+mod copies;
 mod law;
 mod memory;
 mod reads;
 mod world;
 
-pub use calls::{CallStop, Machine, ReadStop};
+pub use calls::{CallStop, Machine, ReadStop, RunStop};
+pub use copies::{Copied, copy_bytes, copy_items};
 pub use law::held_joins;
 pub use memory::MemoryMachine;
 pub use reads::fill;

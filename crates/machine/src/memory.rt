@@ -1,11 +1,12 @@
 //! A machine in memory, which tells its world and its past.
-ghost use Rattle.std.specs.Prelude.{◌≡◌, ◌+◌, ◌↔◌, [], true, length, vec_len, IsTrue, IfOk, OnErr};
+ghost use Rattle.std.specs.Prelude.{◌≡◌, ◌+◌, ◌↔◌, [], true, false, pos, length, vec_len, IsTrue, IfOk, OnErr};
 ghost use Rattle.std.specs.Result.{result_unwrap_or};
 ghost use Rattle.std.specs.FinMap as map;
 ghost use Rattle.updater_text.specs.Counts.{counted};
 ghost use Rattle.machine.specs.World.{Holds, file, readable, size_of, written};
-ghost use Rattle.machine.specs.Past.{Read, Size, Sync, Write, now};
-ghost use Rattle.machine.specs.Calls.{Counted, Ends, FileCounted, FileEnds, HasRoom, IsLong, ReadSome, ReadsFile};
+ghost use Rattle.machine.specs.Spares.{is_boot};
+ghost use Rattle.machine.specs.Past.{Clock, Read, Replace, Size, Sync, Write, now};
+ghost use Rattle.machine.specs.Calls.{Counted, Ends, FileCounted, FileEnds, HasRoom, IsKept, IsLong, ReadSome, ReadsFile, RunCounted, RunEnds};
 ghost use Rattle.machine.specs.Logged.{told_by};
 
 mod changes;
@@ -14,7 +15,7 @@ mod notes;
 #[cfg(test)]
 mod tests;
 
-use crate::{CallStop, Machine, Named, ReadStop, World};
+use crate::{CallStop, Child, Exit, Machine, Named, ReadStop, RunStop, World};
 use boot_model::Vars;
 use changes::length_of;
 use log::UndoLog;
@@ -25,7 +26,7 @@ use updater_text::{Items, NoMemory};
 /// A machine in memory. Its calls are numbered from 1; those with the numbers that it is made with
 /// fail and do nothing, and all others are done. A call takes its memory first: where that is
 /// wanting it does nothing and has no number. It keeps what takes its calls back, and no copy of the
-/// world that it began with.
+/// world that it began with. It replaces no file, starts no child and has no clock: those calls fail.
 #[derive(Drop)]
 pub struct MemoryMachine {
     alloc: Global,
@@ -214,5 +215,24 @@ impl Machine for MemoryMachine {
         let fails = self.is_failing();
         let noted = self.log.sync(self.alloc, path, fails);
         self.settle(noted, fails)
+    }
+
+    fn file_replace(&mut self, path: &str, bytes: &[u8]) -> Result<(), CallStop> {
+        let noted = self.log.replace(self.alloc, path, bytes);
+        self.settle(noted, true)
+    }
+
+    fn run(&mut self, alloc: Global, child: &Child) -> Result<Exit, RunStop> {
+        let noted = self.log.run(alloc, child);
+        match self.settle(noted, true) {
+            Ok(()) => unreachable!(),
+            Err(CallStop::Failed) => Err(RunStop::Failed),
+            Err(CallStop::NoMemory) => Err(RunStop::NoMemory),
+        }
+    }
+
+    fn now(&mut self) -> Result<i64, CallStop> {
+        let noted = self.log.clock();
+        self.settle(noted, true)
     }
 }

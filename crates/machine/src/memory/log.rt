@@ -1,10 +1,10 @@
 ghost use Rattle.std.specs.Prelude.{◌≡◌, ◌≤◌, ◌+◌, ◌*◌, ◌^◌, ◌++◌, [], ◌∷◌, Bool, true, false, length, vec_len, IsTrue, IfOk, OnOk, OnErr};
 
-use crate::World;
 use crate::memory::changes::{
     besides, bytes_read, copy_at, copy_range, count_at, fetch, size_under, whole_file, write,
 };
 use crate::memory::notes::{Note, Outcome, Undo, Whole};
+use crate::{Child, Copied, World, copy_bytes};
 use std::alloc::Global;
 use std::mem;
 use updater_text::{Items, NoMemory, Text};
@@ -20,7 +20,8 @@ pub struct UndoLog {
 
 impl UndoLog {
     ghost use Rattle.machine.specs.World.{Holds, file, readable, size_of, written};
-    ghost use Rattle.machine.specs.Past.{File, Size, Read, Sync, Write};
+    ghost use Rattle.std.specs.Prelude.{pos};
+    ghost use Rattle.machine.specs.Past.{Broken, Clock, File, Read, Replace, Run, Size, Sync, Write};
     ghost use Rattle.machine.specs.Calls.{IsLong, ReadSome};
     ghost use Rattle.machine.specs.Undo.{before, end_of};
     ghost use Rattle.machine.specs.Whole.{WholeFound, end_whole};
@@ -182,5 +183,35 @@ impl UndoLog {
             outcome: Outcome::Done,
         });
         Ok(count)
+    }
+
+    /// A replacement that is not done.
+    pub fn replace(&mut self, alloc: Global, path: &str, bytes: &[u8]) -> Result<(), NoMemory>
+        ensures ok { OnOk result (Noted self.old self.new (Replace path.now bytes.now) Broken) }
+        ensures err { OnErr result (Kept self.old self.new) }
+    {
+        let undo = Undo::Replace {
+            path: Text::new(alloc, path)?,
+            bytes: copy_bytes(alloc, bytes)?,
+        };
+        self.note(undo, Outcome::Failed)
+    }
+
+    /// A child that is not started.
+    pub fn run(&mut self, alloc: Global, child: &Child) -> Result<(), NoMemory>
+        ensures ok { OnOk result (Noted self.old self.new (Run child.now) Broken) }
+        ensures err { OnErr result (Kept self.old self.new) }
+    {
+        let child = child.copied(alloc)?;
+        self.note(Undo::Run { child }, Outcome::Failed)
+    }
+
+    /// A look at a clock that is not there.
+    pub fn clock(&mut self) -> Result<i64, NoMemory>
+        ensures ok { OnOk result (Noted self.old self.new (Clock (pos 0)) Broken) }
+        ensures err { OnErr result (Kept self.old self.new) }
+    {
+        self.note(Undo::Clock, Outcome::Failed)?;
+        Ok(0)
     }
 }

@@ -1,4 +1,4 @@
-use crate::Span;
+use crate::{Child, Span};
 use updater_text::{Items, Text};
 
 /// How a numbered call ended: it was done, it failed, or the file was longer than asked for.
@@ -32,6 +32,14 @@ pub enum Undo {
         path: Text,
         pending: Items<Span>,
     },
+    Replace {
+        path: Text,
+        bytes: Items<u8>,
+    },
+    Run {
+        child: Child,
+    },
+    Clock,
 }
 
 /// A numbered call.

@@ -1,0 +1,99 @@
+-- What children and replacements leave, and how it joins.
+use Rattle.std.proofs.Common.{◌≡◌, ◌≢◌, ℕ, Bool, true, false, cond, ◌||◌, List, [], ◌∷◌, filter, Option, Some, Result, Ok, Err, refl, sym, ◌∙◌, ap, subst}
+use Rattle.std.specs.Prelude.{bytes_eq}
+use Rattle.std.proofs.lemmas.Bool.{true≢false}
+use Rattle.std.proofs.lemmas.Slice.Eq.{bytes_eq-Decides}
+use Rattle.machine.specs.declared.world.Child.{Child}
+use Rattle.machine.specs.declared.world.Exit.{Exit}
+use Rattle.machine.specs.declared.world.Named.{Named}
+use Rattle.machine.specs.declared.world.Span.{Span}
+use Rattle.machine.specs.declared.world.World.{World}
+use Rattle.machine.specs.declared.calls.RunStop.{RunStop}
+use Rattle.machine.specs.declared.calls.RunStop.TheVariants as run
+use Rattle.machine.specs.World.{bytes_under, file, put_under, replaced}
+use Rattle.machine.specs.Crash.{covers, is_in}
+use Rattle.machine.specs.Spares.{Spared, spans_of}
+use Rattle.machine.specs.Past.{Past, Run, Done, Broken, Inside, Ran, Always, now}
+use Rattle.machine.specs.Calls.{RunEnds}
+use Rattle.machine.proofs.Moments.{always_did, always_start}
+use Rattle.machine.proofs.Worlds.{bytes_eq_other}
+
+-- a child may change nothing at all, and what two children leave joins
+pub spared_refl : (child : Child) (w : World) → Spared child w w
+spared_refl child w = record {
+  writes = refl;
+  fetched = refl;
+  lengths = λ path. refl;
+  disks = λ path spares. refl;
+  pending = λ path spares. refl;
+  files = λ path spares. refl;
+  vars = λ spares. refl;
+}
+
+pub spared_trans : (child : Child) (u v w : World) → Spared child u v → Spared child v w → Spared child u w
+spared_trans child u v w uv vw = record {
+  writes = vw.writes ∙ uv.writes;
+  fetched = vw.fetched ∙ uv.fetched;
+  lengths = λ path. vw.lengths path ∙ uv.lengths path;
+  disks = λ path spares. vw.disks path spares ∙ uv.disks path spares;
+  pending = λ path spares. vw.pending path spares ∙ uv.pending path spares;
+  files = λ path spares. vw.files path spares ∙ uv.files path spares;
+  vars = λ spares. vw.vars spares ∙ uv.vars spares;
+}
+
+-- whether a byte is pending shows in the spans of its path
+pub is_in-spans_of : (spans : List Span) (path : List ℕ) (i : ℕ) → is_in (spans_of spans path) path i ≡ is_in spans path i
+is_in-spans_of [] path i = refl
+is_in-spans_of (s ∷ ss) path i =
+    elim (bytes_eq s.path path) as (λ b. bytes_eq s.path path ≡ b → is_in (cond b (s ∷ spans_of ss path) (spans_of ss path)) path i ≡ (covers s path i || is_in ss path i)) [
+      | true ↦ λ e. ap (λ (b : Bool). covers s path i || b) (is_in-spans_of ss path i)
+      | false ↦ λ e. rw e (is_in-spans_of ss path i)
+    ] refl
+
+-- the run of a child, however it ended
+pub always_run : (a b : Past) (child : Child) (P : World → Type 0) (result : Result Exit RunStop) → RunEnds a b child result → P (now a) → ((u : World) → Inside (Run child) (now a) u → P u) → ((exit : Exit) (v : World) → Ran child exit (now a) v → P v) → Always a b P
+always_run a b child P (Ok exit) ends here inside after =
+    always_did a b (Run child) Done P ends.0 here inside (after ends.0.after.0 (now b) ends.0.after.1)
+always_run a b child P (Err run.Failed) did here inside after =
+    always_did a b (Run child) Broken P did here inside (subst P (sym did.after) here)
+always_run a b child P (Err run.NoMemory) same here inside after = subst (λ (q : Past). Always a q P) (sym same) (always_start a P here)
+
+-- what stands under a path after bytes were put
+pub bytes_under-put_same : (ns : List Named) (p bytes : List ℕ) → bytes_under (put_under ns p bytes) p ≡ Some bytes
+bytes_under-put_same [] p bytes = rw ((bytes_eq-Decides p p).1 refl) refl
+bytes_under-put_same (n ∷ ns) p bytes =
+    elim (bytes_eq n.path p) as (λ b. bytes_eq n.path p ≡ b → bytes_under (cond b (record n { bytes = bytes } ∷ ns) (n ∷ put_under ns p bytes)) p ≡ Some bytes) [
+      | true ↦ λ e. rw e refl
+      | false ↦ λ e. rw e (bytes_under-put_same ns p bytes)
+    ] refl
+
+pub bytes_under-put_other : (ns : List Named) (p q bytes : List ℕ) → q ≢ p → bytes_under (put_under ns p bytes) q ≡ bytes_under ns q
+bytes_under-put_other [] p q bytes ne = rw (bytes_eq_other p q (λ h. ne (sym h))) refl
+bytes_under-put_other (n ∷ ns) p q bytes ne =
+    elim (bytes_eq n.path p) as (λ b. bytes_eq n.path p ≡ b → bytes_under (cond b (record n { bytes = bytes } ∷ ns) (n ∷ put_under ns p bytes)) q ≡ bytes_under (n ∷ ns) q) [
+      | true ↦ λ e.
+          let is = (bytes_eq-Decides n.path p).0 e in
+          let other = bytes_eq_other n.path q (λ h. ne (sym h ∙ is)) in
+          rw other refl
+      | false ↦ λ e. ap (λ (o : Option (List ℕ)). cond (bytes_eq n.path q) (Some n.bytes) o) (bytes_under-put_other ns p q bytes ne)
+    ] refl
+
+-- a file that was replaced, and every other
+pub file-replaced : (w : World) (p bytes : List ℕ) → file (replaced w p bytes) p ≡ Some bytes
+unfolding replaced
+file-replaced w p bytes = bytes_under-put_same w.files p bytes
+
+pub file-replaced_other : (w : World) (p q bytes : List ℕ) → q ≢ p → file (replaced w p bytes) q ≡ file w q
+unfolding replaced
+file-replaced_other w p q bytes ne = bytes_under-put_other w.files p q bytes ne
+
+-- what stands under a path of which nothing is dropped
+pub bytes_under-filter : (keeps : List ℕ → Bool) (ns : List Named) (p : List ℕ) → keeps p ≡ true → bytes_under (filter (λ n. keeps n.path) ns) p ≡ bytes_under ns p
+bytes_under-filter keeps [] p kept = refl
+bytes_under-filter keeps (n ∷ ns) p kept =
+    elim (keeps n.path) as (λ b. keeps n.path ≡ b → bytes_under (cond b (n ∷ filter (λ m. keeps m.path) ns) (filter (λ m. keeps m.path) ns)) p ≡ bytes_under (n ∷ ns) p) [
+      | true ↦ λ e. ap (λ (o : Option (List ℕ)). cond (bytes_eq n.path p) (Some n.bytes) o) (bytes_under-filter keeps ns p kept)
+      | false ↦ λ e.
+          let other = bytes_eq_other n.path p (λ same. true≢false (sym kept ∙ ap keeps (sym same) ∙ e)) in
+          rw other (bytes_under-filter keeps ns p kept)
+    ] refl

@@ -1,0 +1,47 @@
+-- What a child must leave alone.
+use Rattle.std.specs.Prelude.{◌≡◌, ◌==◌, ◌&&◌, ◌||◌, ℕ, Bool, true, false, not, IsTrue, List, length, filter, bytes_eq, codes, slice_index, nat_eq}
+use Rattle.std.specs.List.{list_any, starts_with}
+use Rattle.machine.specs.declared.world.Child.{Child}
+use Rattle.machine.specs.declared.world.ChildClass.{ChildClass}
+use Rattle.machine.specs.declared.world.ChildClass.TheVariants.{Boot, Helper, Handler, Hook}
+use Rattle.machine.specs.declared.world.Span.{Span}
+use Rattle.machine.specs.declared.world.World.{World}
+use Rattle.machine.specs.World.{disk, disk_length, file}
+
+-- a boot program
+abbrev pub is_boot : ChildClass → Bool
+is_boot Boot = true
+is_boot Helper = false
+is_boot Handler = false
+is_boot Hook = false
+
+-- the path is this one, or lies below it
+abbrev pub is_within : List ℕ → List ℕ → Bool
+is_within directory path = bytes_eq path directory || (starts_with nat_eq path directory && (slice_index path (length directory) == 47))
+
+-- the disk must stay as it is; a boot program leaves every disk
+abbrev pub spares_disk : Child → List ℕ → Bool
+spares_disk child path = is_boot child.class || list_any (λ p. bytes_eq p path) child.spares.disks
+
+-- the file must stay as it is; that of the kernel's words is left by all, and every file by a boot program
+abbrev pub spares_file : Child → List ℕ → Bool
+spares_file child path =
+    bytes_eq path (codes "/proc/cmdline") || (is_boot child.class || list_any (λ p. is_within p path) child.spares.files)
+
+-- the boot variables must stay as they are; a boot program is there to change them
+abbrev pub spares_vars : Child → Bool
+spares_vars child = child.spares.boot && not (is_boot child.class)
+
+-- the spans of a path
+abbrev pub spans_of : List Span → List ℕ → List Span
+spans_of spans path = filter (λ s. bytes_eq s.path path) spans
+
+-- v is w but for its runs, and for what the child need not leave alone
+pub record Spared (child : Child) (w v : World) : Type 0 where
+  pub writes : v.writes ≡ w.writes
+  pub fetched : v.fetched ≡ w.fetched
+  pub lengths : (path : List ℕ) → disk_length v path ≡ disk_length w path
+  pub disks : (path : List ℕ) → IsTrue (spares_disk child path) → disk v path ≡ disk w path
+  pub pending : (path : List ℕ) → IsTrue (spares_disk child path) → spans_of v.pending path ≡ spans_of w.pending path
+  pub files : (path : List ℕ) → IsTrue (spares_file child path) → file v path ≡ file w path
+  pub vars : IsTrue (spares_vars child) → v.vars ≡ w.vars
