@@ -5,27 +5,38 @@ ghost use Rattle.machine.specs.Calls.{Counted};
 ghost use Rattle.machine_linux.specs.Reads.{PutFront};
 ghost use Rattle.machine_linux.specs.Tally.{tally_after};
 
+use crate::children::run_child;
 use crate::opened::{Opened, open};
+use crate::replacing::replace_file;
 use crate::whole::{Found, length_of, read_whole};
-use machine::{CallStop, Machine, ReadStop};
+use machine::{CallStop, Child, Exit, Machine, ReadStop, RunStop};
 use std::alloc::Global;
 use std::fs::OpenOptions;
 use std::marker::Model;
 use std::os::unix::fs::FileExt;
+use std::process::{Processes, SystemProcess};
 use std::rt::Files;
+use std::thread::Threads;
+use std::time::{Clock, SystemTime, UNIX_EPOCH};
 use updater_text::Items;
 
 #[cfg(test)]
+mod run_tests;
+#[cfg(test)]
 mod tests;
 
-/// A machine over the files and devices of a system. It tells no world. Contracts see its two counts.
+/// A machine over the files, devices and programs of a system. It tells no world. Contracts see its two counts.
 ///
 /// A path names nothing where the system answers ENOENT or ENOTDIR. Every other error of the system
 /// is a fault, as for a directory or where a file ends before the length that it had when it was
 /// opened. Every file counts as a disk.
 ///
 /// It keeps open the file that it read at an offset last, and the one that it wrote last, so that
-/// a copy of a whole image opens each once. A file is let go where a call on it fails.
+/// a copy of a whole image opens each once. A file is let go where a call on it fails, before a file
+/// is put in its place, and before any child is run.
+///
+/// A file that is to replace another is written beside it, with `.new` after its name. A child has
+/// the variables of this process and those that it is given, no input, and no other open file.
 #[derive(Drop)]
 pub struct Linux<R: Files + Drop> {
     rt: R,
@@ -141,9 +152,37 @@ where
         self.target = Some(target);
         Ok(())
     }
+
+    // Lets go of what is kept open at the path.
+    fn let_go(&mut self, path: &str)
+        ensures { self.new ≡ self.old }
+    {
+        match self.source.take() {
+            Some(source) if !source.is_at(path) => self.source = Some(source),
+            _ => {}
+        }
+        match self.target.take() {
+            Some(target) if !target.is_at(path) => self.target = Some(target),
+            _ => {}
+        }
+    }
 }
 
-impl<R: Files + Drop> Machine for Linux<R>
+// The seconds since 1970.
+fn seconds<C: Clock>(clock: &C) -> Result<i64, CallStop> {
+    let Ok(time) = SystemTime::now(clock) else {
+        return Err(CallStop::Failed);
+    };
+    let Ok(since) = time.duration_since(UNIX_EPOCH) else {
+        return Err(CallStop::Failed);
+    };
+    match i64::try_from(since.as_secs()) {
+        Ok(seconds) => Ok(seconds),
+        Err(_) => Err(CallStop::Failed),
+    }
+}
+
+impl<R: Files + Processes<Started = SystemProcess> + Threads + Clock + Drop> Machine for Linux<R>
 where
     R::File: FileExt,
 {
@@ -188,6 +227,28 @@ where
 
     fn sync(&mut self, path: &str) -> Result<(), CallStop> {
         let outcome = self.sync_target(path);
+        self.counted(outcome)
+    }
+
+    fn file_replace(&mut self, path: &str, bytes: &[u8]) -> Result<(), CallStop> {
+        self.let_go(path);
+        let outcome = replace_file(&self.rt, self.alloc, path, bytes);
+        self.counted(outcome)
+    }
+
+    fn run(&mut self, alloc: Global, child: &Child) -> Result<Exit, RunStop> {
+        self.source = None;
+        self.target = None;
+        let outcome = run_child(&self.rt, alloc, child);
+        match self.counted(outcome) {
+            Ok(exit) => Ok(exit),
+            Err(CallStop::Failed) => Err(RunStop::Failed),
+            Err(CallStop::NoMemory) => Err(RunStop::NoMemory),
+        }
+    }
+
+    fn now(&mut self) -> Result<i64, CallStop> {
+        let outcome = seconds(&self.rt);
         self.counted(outcome)
     }
 }

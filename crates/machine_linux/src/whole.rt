@@ -47,7 +47,7 @@ pub fn read_whole<R: Files>(
         return Err(CallStop::NoMemory);
     };
     if let Err(error) = file.take(limit.saturating_add(1)).read_to_end(&mut bytes) {
-        return Err(read_stop(&error));
+        return Err(stop_of(&error));
     }
     let length = bytes.len() as u64;
     if length > limit {
@@ -56,8 +56,8 @@ pub fn read_whole<R: Files>(
     Ok(Found::Whole(Items::from_vec(bytes)))
 }
 
-// Why bytes were not read: memory for them was refused, or the system failed.
-fn read_stop(error: &io::Error) -> CallStop {
+// Why a call of std gave no value: memory for it was refused, or the system failed.
+pub fn stop_of(error: &io::Error) -> CallStop {
     if error.kind() == ErrorKind::OutOfMemory && error.raw_os_error().is_none() {
         CallStop::NoMemory
     } else {

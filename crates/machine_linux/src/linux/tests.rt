@@ -4,7 +4,7 @@ use std::test::Fail;
 use std::{fs, process};
 
 // The path of a file with these bytes, which this test alone has.
-fn make_file(rt: &HostRuntime, name: &str, text: &str) -> Result<String, Fail> {
+pub(super) fn make_file(rt: &HostRuntime, name: &str, text: &str) -> Result<String, Fail> {
     let id = process::id(rt.process());
     let path = format!(in rt.alloc(); "/tmp/machine_linux-{id}-{name}")?;
     fs::write(rt, path.as_str(), text)?;
@@ -45,6 +45,45 @@ fn writes_and_reads_back(rt: HostRuntime) -> Result<(), Fail> {
     assert_eq!(rt; (m.faults, m.wants), (0, 0));
     fs::remove_file(&rt, disk.as_str())?;
     Ok(())
+}
+
+#[test]
+fn replaces_a_file(rt: HostRuntime) -> Result<(), Fail> {
+    let file = make_file(&rt, "replaced", "old bytes")?;
+    let beside = format!(in rt.alloc(); "{file}.new")?;
+    let mut m = Linux::new(rt, rt.alloc());
+    let mut piece = [b'_'; 3];
+    assert_eq!(rt; m.read_at(&file, 0, &mut piece), Ok(3));
+    assert_eq!(rt; m.file_replace(&file, b"new"), Ok(()));
+    assert!(rt; is_whole(&mut m, rt.alloc(), &file, 3, "new"));
+    assert_eq!(rt; m.read_at(&file, 0, &mut piece), Ok(3));
+    assert_eq!(rt; &piece, b"new");
+    assert!(rt; is_missing(&mut m, rt.alloc(), &beside));
+    fs::remove_file(&rt, file.as_str())?;
+    assert_eq!(rt; m.file_replace(&file, b""), Ok(()));
+    assert!(rt; is_whole(&mut m, rt.alloc(), &file, 3, ""));
+    fs::remove_file(&rt, file.as_str())?;
+    Ok(())
+}
+
+#[test]
+fn keeps_the_old_file_where_none_can_be_made(rt: HostRuntime) {
+    let file = "/proc/self/cmdline";
+    let mut m = Linux::new(rt, rt.alloc());
+    assert_eq!(rt; m.file_replace(file, b"new"), Err(CallStop::Failed));
+    assert_eq!(rt; m.read_at(file, 0, &mut [0; 4]), Ok(4));
+    assert_eq!(rt;
+        m.file_replace("/proc/none/below", b"new"),
+        Err(CallStop::Failed)
+    );
+    assert_eq!(rt; m.faults, 2);
+}
+
+#[test]
+fn fails_to_write_past_a_device(rt: HostRuntime) {
+    let mut m = Linux::new(rt, rt.alloc());
+    assert_eq!(rt; m.write_at("/dev/full", 0, b"abc"), Err(CallStop::Failed));
+    assert_eq!(rt; m.faults, 1);
 }
 
 #[test]

@@ -1,0 +1,133 @@
+ghost use Rattle.std.specs.Prelude.{◌≡◌, ◌≤◌, ◌++◌, vec_len, IfOk, OnOk};
+ghost use Rattle.std.specs.Process.{command_args, command_program};
+ghost use Rattle.machine.specs.Calls.{IsKept};
+
+use crate::whole::stop_of;
+use machine::{CallStop, Child, Ended, EnvVar, Exit};
+use std::alloc::{AllocError, Global};
+use std::io::{Read, sink};
+use std::process::{Command, ExitStatus, Processes, Stdio, SystemProcess};
+use std::thread::{Threads, spawn};
+use std::{io, process};
+use updater_text::{Items, Text};
+
+// How much is kept of each stream of a child, in bytes.
+const KEPT: usize = 65_536;
+
+// What a stream of a child gave: its front, and whether there was more.
+#[derive(Drop)]
+struct Kept {
+    bytes: Vec<u8>,
+    cut: bool,
+    ghost short: { vec_len bytes ≤ 65536 },
+}
+
+// The front of a stream. The rest is read to its end and dropped, so that the child never waits for
+// room to write.
+fn keep_front<S: Read + Drop>(mut stream: S, mut bytes: Vec<u8>) -> io::Result<Kept> {
+    (&mut stream).take(KEPT as u64 + 1).read_to_end(&mut bytes)?;
+    let cut = bytes.len() > KEPT;
+    if cut {
+        bytes.truncate(KEPT);
+        io::copy(&mut stream, &mut sink())?;
+    }
+    Ok(Kept { bytes, cut })
+}
+
+fn add_args(command: &mut Command, args: &[Text]) -> Result<(), AllocError>
+    ensures args { OnOk result (command_args command.new ≡ command_args command.old ++ args.now) }
+    ensures program { OnOk result (command_program command.new ≡ command_program command.old) }
+{
+    for arg in args {
+        command.arg(arg.as_str())?;
+    }
+    Ok(())
+}
+
+// Adds variables to those of this process.
+fn add_vars(command: &mut Command, vars: &[EnvVar]) -> Result<(), AllocError>
+    ensures args { OnOk result (command_args command.new ≡ command_args command.old) }
+    ensures program { OnOk result (command_program command.new ≡ command_program command.old) }
+{
+    for var in vars {
+        command.env(var.name.as_str(), var.value.as_str())?;
+    }
+    Ok(())
+}
+
+// What starts a child, with no input and a pipe for each output.
+fn command_of(alloc: Global, child: &Child) -> Result<Command, AllocError>
+    ensures program { IfOk result (λ c. command_program c ≡ child.now.program) }
+    ensures args { IfOk result (λ c. command_args c ≡ child.now.args) }
+{
+    let mut command = Command::new(alloc, child.program.as_str())?;
+    add_args(&mut command, child.args.as_slice())?;
+    add_vars(&mut command, child.env.as_slice())?;
+    command
+        .stdin(Stdio::null())
+        .stdout(Stdio::piped())
+        .stderr(Stdio::piped());
+    Ok(command)
+}
+
+// Reads both outputs at once, since a child may fill the one while the other is waited for.
+fn read_both<R: Threads>(
+    rt: &R,
+    started: &mut process::Child<SystemProcess>,
+    out: Vec<u8>,
+    err: Vec<u8>,
+) -> Option<(Kept, Kept)> {
+    let stdout = started.stdout.take()?;
+    let stderr = started.stderr.take()?;
+    let reader = spawn(rt, move || keep_front(stdout, out).ok()).ok()?;
+    let err = keep_front(stderr, err).ok();
+    let out = reader.join(rt)?;
+    Some((out, err?))
+}
+
+fn ended_of(status: ExitStatus) -> Ended {
+    let code = status.code().and_then(|code| u8::try_from(code).ok());
+    match code {
+        Some(code) => Ended::Code(code),
+        None => Ended::Signal,
+    }
+}
+
+// Runs a child to its end.
+pub fn run_child<R: Processes<Started = SystemProcess> + Threads>(
+    rt: &R,
+    alloc: Global,
+    child: &Child,
+) -> Result<Exit, CallStop>
+    ensures { IfOk result IsKept }
+{
+    let Ok(mut command) = command_of(alloc, child) else {
+        return Err(CallStop::NoMemory);
+    };
+    let (Ok(out), Ok(err)) = (room(alloc), room(alloc)) else {
+        return Err(CallStop::NoMemory);
+    };
+    let mut started = match command.spawn(rt) {
+        Ok(started) => started,
+        Err(error) => return Err(stop_of(&error)),
+    };
+    let Some((out, err)) = read_both(rt, &mut started, out, err) else {
+        let _ = started.kill();
+        let _ = started.wait();
+        return Err(CallStop::Failed);
+    };
+    let Ok(status) = started.wait() else {
+        return Err(CallStop::Failed);
+    };
+    Ok(Exit {
+        ended: ended_of(status),
+        out: Items::from_vec(out.bytes),
+        err: Items::from_vec(err.bytes),
+        cut: out.cut || err.cut,
+    })
+}
+
+// Room for the front of a stream, for one byte more, and for the read that finds the end.
+fn room(alloc: Global) -> Result<Vec<u8>, AllocError> {
+    Vec::with_capacity(alloc, KEPT + 2)
+}
