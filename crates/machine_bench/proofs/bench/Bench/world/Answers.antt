@@ -1,0 +1,7 @@
+use Rattle.std.proofs.Common.{◌≡◌, IfOk, sym, subst}
+use Rattle.machine.specs.declared.world.World.{World}
+use Rattle.machine_bench.proofs.Undoing.{now-past_of}
+use Rattle.machine_bench.proofs.bench.Bench.world.Goals as goal
+
+pub returns : goal.returns
+returns c = subst (λ (v : World). IfOk c.copied.result (λ w. w ≡ v)) (sym (now-past_of c.args.self.now.log.world c.args.self.now.log.notes.items)) c.copied.ensures

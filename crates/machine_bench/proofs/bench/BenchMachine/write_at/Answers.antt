@@ -1,0 +1,24 @@
+use Rattle.std.proofs.Common.{◌≡◌, ◌+◌, length, IfOk, refl, sym, subst}
+use Rattle.machine.specs.declared.world.World.{World}
+use Rattle.machine_bench.specs.declared.log.UndoLog.{UndoLog}
+use Rattle.machine.specs.World.{Holds, written}
+use Rattle.machine.specs.Past.{Write, now}
+use Rattle.machine_bench.specs.Logged.{told_by}
+use Rattle.machine_bench.proofs.Undoing.{now-past_of}
+use Rattle.machine_bench.proofs.Settling.{settled_ends, settled_value}
+use Rattle.machine_bench.proofs.bench.BenchMachine.write_at.Goals as goal
+
+pub write_noted-noted-requires-clause-holds : goal.write_noted-noted-requires-clause-holds
+write_noted-noted-requires-clause-holds c =
+    subst (λ (w : World). Holds w c.args.path.now (c.args.at + length c.args.from.now)) (now-past_of c.args.self.now.log.world c.args.self.now.log.notes.items) (c.requires.room refl)
+
+pub returns-clause-past : goal.returns-clause-past
+returns-clause-past c = λ told.
+    settled_ends _ _ _ _ _ _ _ _ c.settle.ensures.log (Write c.args.path.now c.args.at (length c.args.from.now)) c.write_noted-noted.result c.settle.result c.settle.ensures.answer c.write_noted-noted.ensures.ok c.write_noted-noted.ensures.err
+
+pub returns-clause-answer : goal.returns-clause-answer
+returns-clause-answer c = λ told.
+    subst (λ (log : UndoLog). IfOk c.settle.result (λ _. now (told_by log) ≡ written (now (told_by c.args.self.now.log)) c.args.path.now c.args.at c.args.from.now)) (sym c.settle.ensures.log)
+    (subst (λ (w : World). IfOk c.settle.result (λ _. w ≡ written (now (told_by c.args.self.now.log)) c.args.path.now c.args.at c.args.from.now)) (sym (now-past_of c.write_noted-noted.new.self.log.world c.write_noted-noted.new.self.log.notes.items))
+    (subst (λ (w : World). IfOk c.settle.result (λ _. c.write_noted-noted.new.self.log.world ≡ written w c.args.path.now c.args.at c.args.from.now)) (sym (now-past_of c.args.self.now.log.world c.args.self.now.log.notes.items))
+    (settled_value _ _ _ _ _ c.write_noted-noted.result c.settle.result (λ _. c.write_noted-noted.new.self.log.world ≡ written c.args.self.now.log.world c.args.path.now c.args.at c.args.from.now) c.settle.ensures.answer c.write_noted-noted.ensures.written)))

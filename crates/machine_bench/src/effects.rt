@@ -1,0 +1,236 @@
+ghost use Rattle.std.specs.Prelude.{◌≡◌, bytes_eq, codes, filter, IfOk, OnOk, OnErr};
+ghost use Rattle.std.specs.List.{list_any};
+ghost use Rattle.machine.specs.Spares.{is_boot, is_within};
+ghost use Rattle.machine.specs.Spares as machine_spec;
+ghost use Rattle.machine_bench.specs.Scripts.{effected};
+ghost use Rattle.machine_bench.specs.Scripts as spec;
+ghost use Rattle.machine_bench.specs.Undo.{taken_back, undone_by};
+
+use crate::changes::{copy_range, put, take_back, touch};
+use crate::lookup::{bytes_of, holds};
+use crate::notes::Change;
+use crate::setup::Effect;
+use machine::{Child, ChildClass, Copied, Named, RunNote, World, copy_bytes};
+use std::alloc::Global;
+use std::mem;
+use updater_text::{Items, NoMemory, Text};
+
+/// The file of the kernel's words, which every child leaves alone.
+const KERNEL_WORDS: &str = "/proc/cmdline";
+
+fn is_boot(class: ChildClass) -> bool
+    ensures { result ≡ is_boot class }
+{
+    class == ChildClass::Boot
+}
+
+// Whether the path is this one, or lies below it.
+fn is_within(directory: &str, path: &str) -> bool
+    ensures { result ≡ is_within directory.now path.now }
+{
+    let bytes = path.as_bytes();
+    path == directory
+        || (bytes.starts_with(directory.as_bytes()) && bytes.get(directory.len()) == Some(&b'/'))
+}
+
+// Whether the path is among these.
+fn is_among(paths: &[Text], path: &str) -> bool
+    ensures { result ≡ list_any (λ p. bytes_eq p path.now) paths.now }
+{
+    paths.iter().any(|other| other.as_str() == path)
+}
+
+// Whether the path is one of these, or lies below one.
+fn lies_in(places: &[Text], path: &str) -> bool
+    ensures { result ≡ list_any (λ p. is_within p path.now) places.now }
+{
+    places.iter().any(|place| is_within(place.as_str(), path))
+}
+
+// Whether the child must leave the disk alone.
+fn spares_disk(child: &Child, path: &str) -> bool
+    ensures { result ≡ machine_spec.spares_disk child.now path.now }
+{
+    is_boot(child.class) || is_among(child.spares.disks.as_slice(), path)
+}
+
+// Whether the child must leave the file alone.
+fn spares_file(child: &Child, path: &str) -> bool
+    ensures { result ≡ machine_spec.spares_file child.now path.now }
+{
+    path == KERNEL_WORDS || is_boot(child.class) || lies_in(child.spares.files.as_slice(), path)
+}
+
+// Whether a file stays where those are dropped whose path begins so.
+fn keeps(child: &Child, prefix: &str, path: &str) -> bool
+    ensures { result ≡ spec.keeps child.now prefix.now path.now }
+{
+    spares_file(child, path) || !path.as_bytes().starts_with(prefix.as_bytes())
+}
+
+// The files that stay, once more.
+fn kept_files(
+    alloc: Global,
+    files: &[Named],
+    child: &Child,
+    prefix: &str,
+) -> Result<Items<Named>, NoMemory>
+    ensures { IfOk result (λ kept. kept ≡ filter (λ n. spec.keeps child.now prefix.now n.path) files.now) }
+{
+    let mut kept = Items::new(alloc);
+    for file in files {
+        if keeps(child, prefix, file.path.as_str()) {
+            kept.push(file.copied(alloc)?)?;
+        }
+    }
+    Ok(kept)
+}
+
+#[tactic(auto, unfolding(machine::specs::World::replaced))]
+fn put_file(
+    alloc: Global,
+    world: &mut World,
+    child: &Child,
+    path: &str,
+    bytes: &[u8],
+) -> Result<Option<Change>, NoMemory>
+    ensures ok { OnOk result (world.new ≡ spec.file_put child.now path.now bytes.now world.old) }
+    ensures back { IfOk result (λ change. undone_by change world.new ≡ world.old) }
+    ensures err { OnErr result (world.new ≡ world.old) }
+{
+    if spares_file(child, path) || bytes_of(world.disks.as_slice(), path).is_some() {
+        return Ok(None);
+    }
+    let named = Text::new(alloc, path)?;
+    let bytes = copy_bytes(alloc, bytes)?;
+    let replaced = put(alloc, &mut world.files, path, bytes)?;
+    Ok(Some(Change::Put {
+        path: named,
+        replaced,
+    }))
+}
+
+#[tactic(auto, unfolding(crate::specs::Scripts::dropped))]
+fn drop_files(
+    alloc: Global,
+    world: &mut World,
+    child: &Child,
+    prefix: &str,
+) -> Result<Option<Change>, NoMemory>
+    ensures ok { OnOk result (world.new ≡ spec.dropped world.old child.now prefix.now) }
+    ensures back { IfOk result (λ change. undone_by change world.new ≡ world.old) }
+    ensures err { OnErr result (world.new ≡ world.old) }
+{
+    let kept = kept_files(alloc, world.files.as_slice(), child, prefix)?;
+    let files = mem::replace(&mut world.files, kept);
+    Ok(Some(Change::Dropped { files }))
+}
+
+fn touch_disk(
+    alloc: Global,
+    world: &mut World,
+    child: &Child,
+    path: &str,
+    at: u64,
+    bytes: &[u8],
+) -> Result<Option<Change>, NoMemory>
+    ensures ok { OnOk result (world.new ≡ spec.disk_touched child.now path.now at bytes.now world.old) }
+    ensures back { IfOk result (λ change. undone_by change world.new ≡ world.old) }
+    ensures err { OnErr result (world.new ≡ world.old) }
+{
+    if spares_disk(child, path) || !holds(world, path, at, bytes.len() as u64) {
+        return Ok(None);
+    }
+    let named = Text::new(alloc, path)?;
+    let disks = world.disks.as_slice();
+    let replaced = copy_range(alloc, disks, path, at as usize, bytes.len())?;
+    touch(alloc, world, path, at, bytes)?;
+    Ok(Some(Change::Touched {
+        path: named,
+        at,
+        replaced,
+    }))
+}
+
+// Does one effect of a child; None where nothing is changed.
+fn change_world(
+    alloc: Global,
+    world: &mut World,
+    child: &Child,
+    effect: &Effect,
+) -> Result<Option<Change>, NoMemory>
+    ensures ok { OnOk result (world.new ≡ effected child.now effect.now world.old) }
+    ensures back { IfOk result (λ change. undone_by change world.new ≡ world.old) }
+    ensures err { OnErr result (world.new ≡ world.old) }
+{
+    match effect {
+        Effect::PutFile { path, bytes } => {
+            put_file(alloc, world, child, path.as_str(), bytes.as_slice())
+        }
+        Effect::DropFiles { prefix } => drop_files(alloc, world, child, prefix.as_str()),
+        Effect::WriteDisk { path, at, bytes } => {
+            touch_disk(alloc, world, child, path.as_str(), *at, bytes.as_slice())
+        }
+    }
+}
+
+// Does one effect of a child, and adds the change to those before.
+fn do_effect(
+    alloc: Global,
+    world: &mut World,
+    child: &Child,
+    effect: &Effect,
+    changes: &mut Vec<Change>,
+) -> Result<(), NoMemory>
+    ensures ok { OnOk result (world.new ≡ effected child.now effect.now world.old) }
+    ensures back { taken_back changes.new.items world.new ≡ taken_back changes.old.items world.old }
+{
+    changes.reserve(1)?;
+    if let Some(change) = change_world(alloc, world, child, effect)? {
+        changes.push_reserved(change);
+    }
+    Ok(())
+}
+
+// Does effects of a child in turn. Where memory is wanting, those that were done are among the
+// changes.
+fn do_effects(
+    alloc: Global,
+    world: &mut World,
+    child: &Child,
+    effects: &[Effect],
+    changes: &mut Vec<Change>,
+) -> Result<(), NoMemory>
+    ensures ok { OnOk result (world.new ≡ spec.all_effected child.now effects.now world.old) }
+    ensures back { taken_back changes.new.items world.new ≡ taken_back changes.old.items world.old }
+{
+    for effect in effects {
+        do_effect(alloc, world, child, effect, changes)?;
+    }
+    Ok(())
+}
+
+/// Notes a child among the runs, and does its effects: all or none.
+#[tactic(auto, unfolding(crate::specs::Scripts::noted_run))]
+pub fn run(
+    alloc: Global,
+    world: &mut World,
+    note: RunNote,
+    effects: &[Effect],
+) -> Result<Items<Change>, NoMemory>
+    ensures ok { OnOk result (world.new ≡ spec.all_effected note.child effects.now (spec.noted_run world.old note.child note.exit)) }
+    ensures back { IfOk result (λ changes. taken_back changes world.new ≡ world.old) }
+    ensures err { OnErr result (world.new ≡ world.old) }
+{
+    let child = note.child.copied(alloc)?;
+    let mut changes = Vec::with_capacity(alloc, 1)?;
+    world.runs.push(note)?;
+    changes.push_reserved(Change::Ran);
+    match do_effects(alloc, world, &child, effects, &mut changes) {
+        Ok(()) => Ok(Items::from_vec(changes)),
+        Err(NoMemory) => {
+            take_back(world, changes);
+            Err(NoMemory)
+        }
+    }
+}

@@ -1,0 +1,51 @@
+use boot_model::{BootKind, Vars};
+use machine::{Ended, Named};
+use updater_text::{Items, Text};
+
+/// What a scripted child does to the world. What the child must leave alone stays as it is.
+#[derive(Drop)]
+pub enum Effect {
+    /// Puts a file with these bytes at the path, unless a disk is there.
+    PutFile {
+        path: Text,
+        bytes: Items<u8>,
+    },
+    /// Drops each file whose path begins so.
+    DropFiles {
+        prefix: Text,
+    },
+    /// Writes the bytes to a disk from byte `at` on, which is not done where they don't lie on it.
+    /// They are pending then.
+    WriteDisk {
+        path: Text,
+        at: u64,
+        bytes: Items<u8>,
+    },
+}
+
+/// What a child does: one that runs `program` with arguments that begin with `args`. It puts `out`
+/// and `err` out on its two streams, has the effects in turn, and ends as `ended` says.
+#[derive(Drop)]
+pub struct Script {
+    pub program: Text,
+    pub args: Items<Text>,
+    pub ended: Ended,
+    pub out: Items<u8>,
+    pub err: Items<u8>,
+    pub effects: Items<Effect>,
+}
+
+/// What a bench starts with: its disks and files, its boot loader and the variables of that, what
+/// children do, the numbers of the calls that fail, the number of the call at which the power stops,
+/// if any, and what the clock says, in seconds since 1970.
+#[derive(Drop)]
+pub struct Setup {
+    pub disks: Items<Named>,
+    pub files: Items<Named>,
+    pub boot: BootKind,
+    pub vars: Vars,
+    pub scripts: Items<Script>,
+    pub fails: Items<u64>,
+    pub stop: Option<u64>,
+    pub now: i64,
+}
