@@ -101,7 +101,7 @@ expect 1 "rauc: bad usage, see rauc --help" $'\xff'
 expect 1 "rauc: bad usage, see rauc --help" --help $'\xff'
 expect 0 "usage: rauc [-c FILE] [--override-boot-slot=NAME] COMMAND
 commands: install BUNDLE, info BUNDLE, status [ACTION [SLOT]], write-slot SLOT IMAGE, service" --help
-expect 1 "rauc: image r.tar.xz is an archive" write-slot -c c rootfs.1 r.tar.xz
+expect 1 "rauc: image r.tar.xz is an archive" write-slot --override-boot-slot=A -c c rootfs.1 r.tar.xz
 same b before
 mv b gone
 expect 1 "rauc: no device $PWD/b" write-slot --override-boot-slot=A -c c rootfs.1 full.img
