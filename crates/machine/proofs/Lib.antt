@@ -5,7 +5,3 @@ pub mod Joins
 pub mod Sparing
 pub mod Reading
 pub mod Only
-pub mod Places
-pub mod Undoing
-pub mod Settling
-pub mod Noting

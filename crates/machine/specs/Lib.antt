@@ -5,7 +5,3 @@ pub mod Past
 pub mod Calls
 pub mod Frames
 pub mod Stops
-pub mod Undo
-pub mod Whole
-pub mod Logged
-pub mod Numbered

@@ -5,13 +5,11 @@
 mod calls;
 mod copies;
 mod law;
-mod memory;
 mod reads;
 mod world;
 
 pub use calls::{CallStop, Machine, ReadStop, RunStop};
 pub use copies::{Copied, copy_bytes, copy_items};
 pub use law::held_joins;
-pub use memory::MemoryMachine;
 pub use reads::fill;
 pub use world::{Child, ChildClass, Ended, EnvVar, Exit, Named, RunNote, Span, Spares, World};

@@ -8,9 +8,13 @@ mod effects;
 mod log;
 mod lookup;
 mod notes;
+#[cfg(test)]
+mod script_tests;
 mod scripts;
 mod setup;
 mod stopped;
+#[cfg(test)]
+mod tests;
 
 pub use bench::Bench;
 pub use setup::{Effect, Script, Setup};

@@ -22,6 +22,8 @@ mod conf_tests;
 #[cfg(test)]
 mod slot_tests;
 #[cfg(test)]
+mod stop_tests;
+#[cfg(test)]
 mod tests;
 #[cfg(test)]
 mod word_tests;

@@ -1,5 +1,7 @@
 use crate::rauc;
-use machine::{MemoryMachine, Named, Span, World};
+use boot_model::{BootKind, Vars};
+use machine::{Named, Span, World};
+use machine_bench::{Bench, Setup};
 use std::alloc::Global;
 use std::test::Fail;
 use updater_text::{Items, MemorySink, NoMemory, Text};
@@ -70,7 +72,15 @@ fn texts(alloc: Global, words: &[&str]) -> Result<Vec<Text>, NoMemory> {
     Ok(texts)
 }
 
-fn machine_of(alloc: Global, case: Case<'_>) -> Result<MemoryMachine, NoMemory> {
+// The variables of the boot loader.
+fn boot_vars(alloc: Global) -> Result<Vars, NoMemory> {
+    let mut vars = Vars::new(alloc);
+    vars.set("ORDER", "A B")?;
+    vars.set("A_OK", "1")?;
+    Ok(vars)
+}
+
+fn setup_of(alloc: Global, case: Case<'_>, stop: Option<u64>) -> Result<Setup, NoMemory> {
     let mut disks = Items::new(alloc);
     disks.push(named(alloc, "/dev/a", vec![in alloc; 0xaa; case.device]?)?)?;
     disks.push(named(alloc, "/dev/b", vec![in alloc; 0xbb; case.device]?)?)?;
@@ -85,8 +95,25 @@ fn machine_of(alloc: Global, case: Case<'_>) -> Result<MemoryMachine, NoMemory> 
             files.push(named(alloc, path, Vec::from_slice(alloc, bytes)?)?)?;
         }
     }
-    let fails = Vec::from_slice(alloc, case.fails)?;
-    Ok(MemoryMachine::new(alloc, disks, files, fails))
+    Ok(Setup {
+        disks,
+        files,
+        boot: BootKind::Noop,
+        vars: boot_vars(alloc)?,
+        scripts: Items::new(alloc),
+        fails: Items::from_vec(Vec::from_slice(alloc, case.fails)?),
+        stop,
+        now: 0,
+    })
+}
+
+// A machine on which the power stops at this call, if any.
+pub(crate) fn bench_of(
+    alloc: Global,
+    case: Case<'_>,
+    stop: Option<u64>,
+) -> Result<Bench, NoMemory> {
+    Bench::new(alloc, setup_of(alloc, case, stop)?)
 }
 
 // Whether the device at this place begins with these bytes, and goes on with this one.
@@ -122,10 +149,10 @@ fn look_at(world: &World, case: Case<'_>, status: u8, said: bool, faults: u64) -
     }
 }
 
-fn run_on(
+pub(crate) fn run_on(
     alloc: Global,
     case: Case<'_>,
-    machine: &mut MemoryMachine,
+    machine: &mut Bench,
 ) -> Result<(u8, bool), NoMemory> {
     let words = texts(alloc, case.words)?;
     let out_fails = Vec::from_slice(alloc, case.out_fails)?;
@@ -137,10 +164,11 @@ fn run_on(
 }
 
 pub(crate) fn run(alloc: Global, case: Case<'_>) -> Result<Seen, NoMemory> {
-    let mut machine = machine_of(alloc, case)?;
+    let mut machine = bench_of(alloc, case, None)?;
     let (status, said) = run_on(alloc, case, &mut machine)?;
     let faults = machine.faults();
-    Ok(look_at(machine.world(), case, status, said, faults))
+    let world = machine.world()?;
+    Ok(look_at(&world, case, status, said, faults))
 }
 
 // A write of this image on devices of 16 bytes, and the line that it should put on the output or,
