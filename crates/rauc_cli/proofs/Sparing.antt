@@ -1,5 +1,5 @@
 -- A slot that runs is not written.
-use Rattle.std.proofs.Common.{◌≡◌, ◌<◌, ◌+◌, ◌⊎◌, inl, inr, ⊎_elim, ℕ, zero, suc, Bool, true, false, cond, List, [], ◌∷◌, length, take, get_or, Option, Some, None, Result, Ok, Err, IsTrue, refl, sym, ◌∙◌, ap, subst, slice_get, option_map, option_and_then, position, bytes_eq, arith, true≢false}
+use Rattle.std.proofs.Common.{◌≡◌, ◌<◌, ◌+◌, ◌⊎◌, inl, inr, ⊎_elim, ℕ, zero, suc, Bool, true, false, cond, List, [], ◌∷◌, length, take, get_or, Option, Some, None, Result, Ok, Err, IsTrue, refl, sym, ◌∙◌, ap, subst, slice_get, option_map, option_and_then, bytes_eq, arith, true≢false}
 use Rattle.std.specs.Prelude.{is_none}
 use Rattle.std.specs.Option.{option_map_or}
 use Rattle.std.specs.List.{enumerate_from}
@@ -10,7 +10,7 @@ use Rattle.machine.specs.declared.world.World.{World}
 use Rattle.machine.specs.World.{disk_byte, file}
 use Rattle.machine.specs.Crash.{Crash, is_in}
 use Rattle.machine.specs.Frames.{LeftIn, OnlyIn}
-use Rattle.machine.specs.Past.{Past, now, Always, Held}
+use Rattle.machine.specs.Past.{Past, now, Always}
 use Rattle.machine.proofs.Moments.{held_of}
 use Rattle.machine.proofs.Only.{left_only, only_refl}
 use Rattle.boot_model.specs.declared.boot_kind.BootKind.{BootKind}
@@ -35,7 +35,7 @@ use Rattle.slot_graph.specs.declared.state.Booted.{Booted}
 use Rattle.slot_graph.specs.declared.state.Booted.TheVariants as booted
 use Rattle.rauc_cli.specs.declared.outcome.SlotRefusal.{SlotRefusal}
 use Rattle.rauc_cli.specs.declared.outcome.SlotWritten.{SlotWritten}
-use Rattle.rauc_cli.specs.Checks.{RunningKept, booted_in, is_busy, refusal_at, refusal_of, use_refusal}
+use Rattle.rauc_cli.specs.Checks.{RunningKept, booted_in, is_busy, refusal_at, use_refusal}
 use Rattle.rauc_cli.specs.Slots.{PutKept, at_answer, answer_at, device_at, put_answer, slot_answer, slot_device, slot_named, unless}
 use Rattle.rauc_cli.specs.Conf.{conf_of, of_file, of_groups}
 use Rattle.rauc_cli.specs.declared.conf.BadConf.{BadConf}

@@ -1,7 +1,6 @@
 -- Why an image is not written to a slot, by what the slot is, what runs and what is mounted.
 use Rattle.std.specs.Prelude.{◌≡◌, ℕ, Bool, true, false, IsTrue, List, [], codes, length, if◌then◌else◌, Option, Some, None, Result, Ok, Err, slice_get, bytes_eq, nat_le, option_and_then}
 use Rattle.std.specs.List.{list_any}
-use Rattle.std.specs.Option.{option_map_or}
 use Rattle.updater_text.specs.declared.stops.Stop.{Stop}
 use Rattle.machine.specs.declared.world.World.{World}
 use Rattle.machine.specs.World.{file, disk_byte}

@@ -1,4 +1,4 @@
-use Rattle.std.proofs.Common.{◌≡◌, codes, Some, None}
+use Rattle.std.proofs.Common.{codes, Some, None}
 use Rattle.machine.specs.Past.{now}
 use Rattle.rauc_cli.specs.Checks.{booted_by_line, text_of}
 use Rattle.rauc_cli.proofs.Checking.{finds_further}

@@ -1,5 +1,3 @@
-use Rattle.std.proofs.Common.{◌≡◌, Some, slice_get}
-use Rattle.system_conf.specs.declared.slot.Slot.{Slot}
 use Rattle.rauc_cli.proofs.Checking.{checks_kind, checks_mounts, checks_use, slot_there}
 use Rattle.rauc_cli.proofs.checks.check_slot.Goals as goal
 

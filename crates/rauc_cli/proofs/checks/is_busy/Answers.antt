@@ -1,4 +1,4 @@
-use Rattle.std.proofs.Common.{◌≡◌, ◌∙◌, ap}
+use Rattle.std.proofs.Common.{◌∙◌, ap}
 use Rattle.rauc_cli.specs.Checks.{is_busy}
 use Rattle.rauc_cli.proofs.Checking.{no_state, state_found}
 use Rattle.rauc_cli.proofs.checks.is_busy.Goals as goal

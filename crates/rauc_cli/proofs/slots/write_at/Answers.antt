@@ -1,7 +1,5 @@
-use Rattle.std.proofs.Common.{◌≡◌, ap, option_map}
+use Rattle.std.proofs.Common.{ap}
 use Rattle.machine.specs.declared.world.World.{World}
-use Rattle.machine.specs.Past.{now}
-use Rattle.rauc_cli.specs.Checks.{refusal_at}
 use Rattle.rauc_cli.specs.Slots.{device_at, put_answer}
 use Rattle.rauc_cli.proofs.Putting.{puts_after, puts_refused}
 use Rattle.rauc_cli.proofs.slots.write_at.Goals as goal

@@ -1,4 +1,4 @@
-use Rattle.std.proofs.Common.{◌≡◌, ◌∙◌, option_map, sym}
+use Rattle.std.proofs.Common.{◌∙◌, option_map, sym}
 use Rattle.machine.specs.Past.{now}
 use Rattle.rauc_cli.specs.Slots.{at_answer, device_at}
 use Rattle.rauc_cli.proofs.Sparing.{alone_in, at_target, running_kept}
