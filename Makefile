@@ -22,6 +22,7 @@ demo: $(program)
 
 bench: $(program)
 	@bash bench/configuration.sh $(program)
+	@bash bench/write_slot.sh $(program)
 
 check:
 	rt ci
