@@ -10,7 +10,7 @@ cd "$scratch"
 run() {
   printf '\n$ rauc %s\n' "$*"
   status=0
-  "$program" "$@" || status=$?
+  "$program" "$@" 2>&1 || status=$?
   printf '[status %s]\n' "$status"
 }
 
