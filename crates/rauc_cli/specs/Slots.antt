@@ -80,6 +80,11 @@ abbrev pub PutKept : List ℕ → Result SlotWritten SlotRefusal → World → W
 PutKept device (Ok written) w u = OnlyIn device 0 written.size w u
 PutKept device (Err refusal) w u = u ≡ w
 
+-- how many bytes at the front of the device may differ: those of an image that is written
+abbrev pub touched_size : Result SlotWritten SlotRefusal → ℕ
+touched_size (Ok written) = written.size
+touched_size (Err refusal) = 0
+
 -- write-slot, where this answer is the one to give: what was done on the way, what it answers, what stands at the end, and which call failed
 pub record Puts (tells : Bool) (image device : List ℕ) (answer : Result SlotWritten SlotRefusal) (old new : Past) (result : Result SlotWritten (Stop SlotRefusal)) : Type 0 where
   pub kept : IsTrue tells → Always old new (PutKept device answer (now old))

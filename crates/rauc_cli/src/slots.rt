@@ -1,8 +1,9 @@
 ghost use Rattle.std.specs.Prelude.{◌≡◌, ◌<◌, length, option_map};
+ghost use Rattle.machine.specs.Frames.{HeldIn};
 ghost use Rattle.machine.specs.Past.{now};
 ghost use Rattle.machine.specs.Stops.{StopCounted};
 ghost use Rattle.rauc_cli.specs.Checks.{RunningKept, booted_in};
-ghost use Rattle.rauc_cli.specs.Slots.{Puts, at_answer, device_at, image_stop, put_answer, slot_answer, slot_device, whole_answer};
+ghost use Rattle.rauc_cli.specs.Slots.{Puts, at_answer, device_at, image_stop, put_answer, slot_answer, slot_device, touched_size, whole_answer};
 
 use crate::SlotRefusal;
 use crate::checks::check_slot;
@@ -118,6 +119,7 @@ pub fn write_slot<M: Machine>(
     image: &str,
 ) -> Result<SlotWritten, Stop<SlotRefusal>>
     ensures put { Puts M.tells image.now (slot_device system.now.slots slot.now) (slot_answer system.now.slots (option_map (λ name. name.now) given.entry) slot.now image.now (now (M.past m.old))) (M.past m.old) (M.past m.new) result }
+    ensures held { HeldIn M.tells (slot_device system.now.slots slot.now) 0 (touched_size (slot_answer system.now.slots (option_map (λ name. name.now) given.entry) slot.now image.now (now (M.past m.old)))) (M.past m.old) (M.past m.new) }
     ensures running { RunningKept M.tells system.now.slots (booted_in system.now.slots (option_map (λ name. name.now) given.entry) (now (M.past m.old))) (M.past m.old) (M.past m.new) }
     ensures counts { StopCounted (M.faults m.old) (M.faults m.new) (M.wants m.old) (M.wants m.new) result }
 {
