@@ -1,5 +1,6 @@
-ghost use Rattle.std.specs.Prelude.{◌≡◌, ◌≤◌, ◌++◌, vec_len, IfOk, OnOk};
-ghost use Rattle.std.specs.Process.{command_args, command_program};
+ghost use Rattle.std.specs.Prelude.{◌≡◌, ◌≤◌, ◌++◌, ℕ, List, Some, None, false, vec_len, IfOk, OnOk};
+ghost use Rattle.std.specs.Process.{SameEnv, SameOtherVars, SameProgramAndArgs, clears_env, command_args, command_program, command_var};
+ghost use Rattle.machine_linux.specs.Started.{said_after};
 ghost use Rattle.machine.specs.Calls.{IsKept};
 
 use crate::whole::stop_of;
@@ -37,6 +38,7 @@ fn keep_front<S: Read + Drop>(mut stream: S, mut bytes: Vec<u8>) -> io::Result<K
 fn add_args(command: &mut Command, args: &[Text]) -> Result<(), AllocError>
     ensures args { OnOk result (command_args command.new ≡ command_args command.old ++ args.now) }
     ensures program { OnOk result (command_program command.new ≡ command_program command.old) }
+    ensures env { OnOk result (SameEnv command.old command.new) }
 {
     for arg in args {
         command.arg(arg.as_str())?;
@@ -44,29 +46,50 @@ fn add_args(command: &mut Command, args: &[Text]) -> Result<(), AllocError>
     Ok(())
 }
 
-// Adds variables to those of this process.
+// Adds a variable to those of this process, in the place of one of this name.
+fn add_var(command: &mut Command, var: &EnvVar) -> Result<(), AllocError>
+    ensures set { OnOk result (command_var command.new var.now.name ≡ Some (Some var.now.value)) }
+    ensures others { OnOk result (SameOtherVars command.old command.new var.now.name) }
+    ensures call { OnOk result (SameProgramAndArgs command.old command.new) }
+    ensures inherits { OnOk result (clears_env command.new ≡ clears_env command.old) }
+{
+    command.env(var.name.as_str(), var.value.as_str())?;
+    Ok(())
+}
+
 fn add_vars(command: &mut Command, vars: &[EnvVar]) -> Result<(), AllocError>
-    ensures args { OnOk result (command_args command.new ≡ command_args command.old) }
-    ensures program { OnOk result (command_program command.new ≡ command_program command.old) }
+    ensures vars { OnOk result ((name : List ℕ) → command_var command.new name ≡ said_after (command_var command.old name) vars.now name) }
+    ensures call { OnOk result (SameProgramAndArgs command.old command.new) }
+    ensures inherits { OnOk result (clears_env command.new ≡ clears_env command.old) }
 {
     for var in vars {
-        command.env(var.name.as_str(), var.value.as_str())?;
+        add_var(command, var)?;
     }
     Ok(())
 }
 
-// What starts a child, with no input and a pipe for each output.
-fn command_of(alloc: Global, child: &Child) -> Result<Command, AllocError>
-    ensures program { IfOk result (λ c. command_program c ≡ child.now.program) }
-    ensures args { IfOk result (λ c. command_args c ≡ child.now.args) }
+// Gives a child no input, and a pipe for each output.
+fn set_streams(command: &mut Command)
+    ensures call { SameProgramAndArgs command.old command.new }
+    ensures env { SameEnv command.old command.new }
 {
-    let mut command = Command::new(alloc, child.program.as_str())?;
-    add_args(&mut command, child.args.as_slice())?;
-    add_vars(&mut command, child.env.as_slice())?;
     command
         .stdin(Stdio::null())
         .stdout(Stdio::piped())
         .stderr(Stdio::piped());
+}
+
+// What starts a child.
+fn command_of(alloc: Global, child: &Child) -> Result<Command, AllocError>
+    ensures program { IfOk result (λ c. command_program c ≡ child.now.program) }
+    ensures args { IfOk result (λ c. command_args c ≡ child.now.args) }
+    ensures vars { IfOk result (λ c. (name : List ℕ) → command_var c name ≡ said_after None child.now.env name) }
+    ensures inherits { IfOk result (λ c. clears_env c ≡ false) }
+{
+    let mut command = Command::new(alloc, child.program.as_str())?;
+    add_args(&mut command, child.args.as_slice())?;
+    add_vars(&mut command, child.env.as_slice())?;
+    set_streams(&mut command);
     Ok(command)
 }
 

@@ -1,9 +1,11 @@
-use Rattle.std.proofs.Common.{◌≡◌}
-use Rattle.std.specs.Process.{command_args, command_program}
+use Rattle.std.proofs.Common.{◌≡◌, ℕ, List, drop}
+use Rattle.std.specs.Process.{SameProgramAndArgs, clears_env, command_var}
+use Rattle.machine_linux.specs.Started.{said_after}
 use Rattle.machine_linux.proofs.children.add_vars.Given as goal
 
 abbrev pub invariant-loop-var : goal.invariant-loop-var
 invariant-loop-var l = record {
-  args : command_args l.command ≡ command_args l.fn.command;
-  program : command_program l.command ≡ command_program l.fn.command;
+  vars : (name : List ℕ) → said_after (command_var l.command name) (drop l.var-index l.vars) name ≡ said_after (command_var l.fn.command name) l.vars name;
+  call : SameProgramAndArgs l.fn.command l.command;
+  inherits : clears_env l.command ≡ clears_env l.fn.command;
 }
