@@ -224,7 +224,7 @@ slots 268435456
 "$program" write-slot --override-boot-slot=A -c c rootfs.1 large.img > one 2>&1 &
 sleep 0.1
 kill -9 $! 2> /dev/null
-wait
+wait $! 2> /dev/null
 if [ ! -s one ]; then pass; else fail "it was to be cut off: $(cat one)"; fi
 same a running
 writes 0 "$(written rootfs.1 large.img)" rootfs.1 large.img
