@@ -1,19 +1,26 @@
 -- Variables that are set in turn.
-use Rattle.std.proofs.Common.{◌≡◌, ℕ, true, false, cond, List, ◌∷◌, Option, Some, refl, sym, ◌∙◌, ap, subst}
-use Rattle.std.specs.Prelude.{bytes_eq}
+use Rattle.std.proofs.Common.{◌≡◌, ℕ, true, false, cond, List, [], ◌∷◌, ◌++◌, Option, Some, refl, sym, ◌∙◌, subst}
+use Rattle.std.specs.Prelude.{bytes_eq, option_map}
+use Rattle.std.specs.Option.{option_or}
 use Rattle.std.specs.Process.{command_var, SameOtherVars}
 use Rattle.std.specs.declared.process.Command.{Command}
 use Rattle.std.proofs.lemmas.Bool.{true≢false}
+use Rattle.std.proofs.lemmas.List.{reverse-append}
 use Rattle.std.proofs.lemmas.Slice.Eq.{bytes_eq-Decides}
 use Rattle.machine.specs.declared.world.EnvVar.{EnvVar}
-use Rattle.machine_linux.specs.Started.{said_after}
+use Rattle.machine_linux.specs.Started.{last_var}
 
-said_of : {A : Type 0} (old new : Command A) (set value name : List ℕ) → command_var new set ≡ Some (Some value) → SameOtherVars old new set → command_var new name ≡ cond (bytes_eq set name) (Some (Some value)) (command_var old name)
-said_of old new set value name is others =
-    elim (bytes_eq set name) as (λ b. bytes_eq set name ≡ b → command_var new name ≡ cond b (Some (Some value)) (command_var old name)) [
-      | true ↦ λ e. subst (λ (n : List ℕ). command_var new n ≡ Some (Some value)) ((bytes_eq-Decides set name).0 e) is
-      | false ↦ λ e. others name (λ same. true≢false (sym ((bytes_eq-Decides set name).1 (sym same)) ∙ e))
-    ] refl
+-- what is said of a name after these variables are set, where this was said of it before
+abbrev pub said : List EnvVar → List ℕ → Option (Option (List ℕ)) → Option (Option (List ℕ))
+said vars name before = option_or (option_map (λ var. Some var.value) (last_var vars name)) before
 
-pub said_more : {A : Type 0} (old new : Command A) (v : EnvVar) (rest : List EnvVar) (name : List ℕ) → command_var new v.name ≡ Some (Some v.value) → SameOtherVars old new v.name → said_after (command_var new name) rest name ≡ said_after (command_var old name) (v ∷ rest) name
-said_more old new v rest name is others = ap (λ (o : Option (Option (List ℕ))). said_after o rest name) (said_of old new v.name v.value name is others)
+last_var_more : (vars : List EnvVar) (v : EnvVar) (name : List ℕ) → last_var (vars ++ v ∷ []) name ≡ cond (bytes_eq v.name name) (Some v) (last_var vars name)
+last_var_more vars v name = rw (reverse-append vars (v ∷ [])) refl
+
+pub said_more : {A : Type 0} (start old new : Command A) (vars : List EnvVar) (v : EnvVar) (name : List ℕ) → command_var old name ≡ said vars name (command_var start name) → command_var new v.name ≡ Some (Some v.value) → SameOtherVars old new v.name → command_var new name ≡ said (vars ++ v ∷ []) name (command_var start name)
+said_more start old new vars v name before is others =
+    rw (last_var_more vars v name)
+    (elim (bytes_eq v.name name) as (λ b. bytes_eq v.name name ≡ b → command_var new name ≡ option_or (option_map (λ var. Some var.value) (cond b (Some v) (last_var vars name))) (command_var start name)) [
+      | true ↦ λ e. subst (λ (n : List ℕ). command_var new n ≡ Some (Some v.value)) ((bytes_eq-Decides v.name name).0 e) is
+      | false ↦ λ e. others name (λ same. true≢false (sym ((bytes_eq-Decides v.name name).1 (sym same)) ∙ e)) ∙ before
+    ] refl)

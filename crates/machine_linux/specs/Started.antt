@@ -1,8 +1,7 @@
 -- What starts a child.
-use Rattle.std.specs.Prelude.{ℕ, List, [], ◌∷◌, Option, Some, bytes_eq, if◌then◌else◌}
+use Rattle.std.specs.Prelude.{ℕ, List, reverse, Option, find, bytes_eq}
 use Rattle.machine.specs.declared.world.EnvVar.{EnvVar}
 
--- what is said of a variable after these are set in turn: a value, or what was said of it before
-abbrev pub said_after : Option (Option (List ℕ)) → List EnvVar → List ℕ → Option (Option (List ℕ))
-said_after before [] name = before
-said_after before (v ∷ vs) name = said_after (if bytes_eq v.name name then Some (Some v.value) else before) vs name
+-- the last of the variables that has the name, where one has it
+abbrev pub last_var : List EnvVar → List ℕ → Option EnvVar
+last_var vars name = find (λ v. bytes_eq v.name name) (reverse vars)

@@ -1,6 +1,7 @@
-ghost use Rattle.std.specs.Prelude.{◌≡◌, ◌≤◌, ◌++◌, ℕ, List, Some, None, false, vec_len, IfOk, OnOk};
+ghost use Rattle.std.specs.Prelude.{◌≡◌, ◌≤◌, ◌++◌, ℕ, List, Some, false, option_map, vec_len, IfOk, OnOk};
+ghost use Rattle.std.specs.Option.{option_or};
 ghost use Rattle.std.specs.Process.{SameEnv, SameOtherVars, SameProgramAndArgs, clears_env, command_args, command_program, command_var};
-ghost use Rattle.machine_linux.specs.Started.{said_after};
+ghost use Rattle.machine_linux.specs.Started.{last_var};
 ghost use Rattle.machine.specs.Calls.{IsKept};
 
 use crate::whole::stop_of;
@@ -58,7 +59,7 @@ fn add_var(command: &mut Command, var: &EnvVar) -> Result<(), AllocError>
 }
 
 fn add_vars(command: &mut Command, vars: &[EnvVar]) -> Result<(), AllocError>
-    ensures vars { OnOk result ((name : List ℕ) → command_var command.new name ≡ said_after (command_var command.old name) vars.now name) }
+    ensures vars { OnOk result ((name : List ℕ) → command_var command.new name ≡ option_or (option_map (λ var. Some var.value) (last_var vars.now name)) (command_var command.old name)) }
     ensures call { OnOk result (SameProgramAndArgs command.old command.new) }
     ensures inherits { OnOk result (clears_env command.new ≡ clears_env command.old) }
 {
@@ -83,7 +84,7 @@ fn set_streams(command: &mut Command)
 fn command_of(alloc: Global, child: &Child) -> Result<Command, AllocError>
     ensures program { IfOk result (λ c. command_program c ≡ child.now.program) }
     ensures args { IfOk result (λ c. command_args c ≡ child.now.args) }
-    ensures vars { IfOk result (λ c. (name : List ℕ) → command_var c name ≡ said_after None child.now.env name) }
+    ensures vars { IfOk result (λ c. (name : List ℕ) → command_var c name ≡ option_map (λ var. Some var.value) (last_var child.now.env name)) }
     ensures inherits { IfOk result (λ c. clears_env c ≡ false) }
 {
     let mut command = Command::new(alloc, child.program.as_str())?;
