@@ -40,23 +40,17 @@ use Rattle.rauc_cli.specs.Slots.{PutKept, at_answer, answer_at, device_at, put_a
 use Rattle.rauc_cli.specs.Conf.{conf_of, of_file, of_groups}
 use Rattle.rauc_cli.specs.declared.conf.BadConf.{BadConf}
 use Rattle.rauc_cli.specs.Plans.{Plan, Stay, Write, Kept, booted_for, conf_plan, file_plan, slot_plan, slots_by, slots_for, slots_in, words_plan}
+use Rattle.system_conf.proofs.Chains.{none_is}
+use Rattle.system_conf.proofs.FirstOf.{both_none}
+use Rattle.system_conf.proofs.Numbered.{slice_get-from}
 use Rattle.rauc_cli.proofs.Checking.{refusal_there}
 
 -- ---- slots have devices of their own
-
-pub both_none : {A : Type 0} (a b : Option A) → or_else a b ≡ None → (a ≡ None) × (b ≡ None)
-both_none (Some x) b e = absurd (cc)
-both_none None b e = (refl, e)
 
 first_none : {A B : Type 0} (f : A → Option B) (xs : List A) (i : ℕ) → first_of f xs ≡ None → option_and_then f (slice_get xs i) ≡ None
 first_none f [] i e = refl
 first_none f (x ∷ xs) zero e = (both_none (f x) (first_of f xs) e).0
 first_none f (x ∷ xs) (suc i) e = first_none f xs i (both_none (f x) (first_of f xs) e).1
-
-numbered : {A : Type 0} (n : ℕ) (xs : List A) (i : ℕ) → slice_get (enumerate_from n xs) i ≡ option_map (λ x. (n + i, x)) (slice_get xs i)
-numbered n [] i = refl
-numbered n (x ∷ xs) zero = let e : n ≡ n + 0 = omega arith in ap (λ k. Some (k, x)) e
-numbered n (x ∷ xs) (suc i) = let e : (n + 1) + i ≡ n + suc i = omega arith in numbered (n + 1) xs i ∙ ap (λ k. option_map (λ y. (k, y)) (slice_get xs i)) e
 
 earlier : {A : Type 0} (xs : List A) (n i : ℕ) → i < n → slice_get (take n xs) i ≡ slice_get xs i
 earlier xs zero i lt = let bad : ⊥ = omega (arith, lt) in absurd bad
@@ -72,7 +66,7 @@ differ : (slots : List Slot) (i j : ℕ) (s t : Slot) → same_device slots ≡ 
 unfolding same_device
 differ slots i j s t none first second lt =
     let zero_on : 0 + j ≡ j = omega arith in
-    let at_j : slice_get (enumerate_from 0 slots) j ≡ Some (j, t) = numbered 0 slots j ∙ ap (option_map (λ x. (0 + j, x))) second ∙ ap (λ k. Some (k, t)) zero_on in
+    let at_j : slice_get (enumerate_from 0 slots) j ≡ Some (j, t) = slice_get-from 0 slots j ∙ ap (option_map (λ x. (0 + j, x))) second ∙ ap (λ k. Some (k, t)) zero_on in
     let here : twin_of shared.Device slots (j, t) ≡ None = sym (ap (option_and_then (twin_of shared.Device slots)) at_j) ∙ first_none (twin_of shared.Device slots) (enumerate_from 0 slots) j none in
     let before : twins shared.Device t s ≡ None = sym (ap (option_and_then (twins shared.Device t)) (earlier slots j i lt ∙ first)) ∙ first_none (twins shared.Device t) (take j slots) i here in
     unless_then (bytes_eq s.device t.device) _ before
@@ -123,10 +117,6 @@ module _ (slots : List Slot) (given : Option (List ℕ)) (name image : List ℕ)
   not_written answered same = by_name (slot_named slots name) refl answered same
 
 -- ---- nor does that of a plan
-
-none_is : {A : Type 0} (o : Option A) → is_none o ≡ true → o ≡ None
-none_is (Some x) e = absurd (cc)
-none_is None e = refl
 
 pub alone_in : (boot : BootKind) (mount_prefix : List ℕ) (status_file data_directory : Option (List ℕ)) (slots : List Slot) → IsTrue (are_unrefused boot mount_prefix status_file data_directory slots) → same_device slots ≡ None
 alone_in boot mount_prefix status_file data_directory slots unrefused =

@@ -3,10 +3,10 @@ mod Cases
 pub mod Chains
 mod Differ
 mod Entries
-mod FirstOf
+pub mod FirstOf
 mod Mandatory
 mod Names
-mod Numbered
+pub mod Numbered
 pub mod Rootless
 mod SlotForms
 mod SlotGroups

@@ -3,7 +3,8 @@ use Rattle.std.proofs.Common.{◌≡◌, ◌<◌, ◌≤◌, ℕ, zero, suc, ◌
 use Rattle.std.specs.List.{enumerate_from}
 use Rattle.std.proofs.lemmas.List.FromFn.{length-enumerate_from}
 
-slice_get-from : {A : Type 0} (n : ℕ) (xs : List A) (i : ℕ) → slice_get (enumerate_from n xs) i ≡ option_map (λ x. (n + i, x)) (slice_get xs i)
+-- an item is told with its place
+pub slice_get-from : {A : Type 0} (n : ℕ) (xs : List A) (i : ℕ) → slice_get (enumerate_from n xs) i ≡ option_map (λ x. (n + i, x)) (slice_get xs i)
 slice_get-from n [] i = refl
 slice_get-from n (x ∷ xs) zero = let e : n ≡ n + 0 = omega arith in ap (λ k. Some (k, x)) e
 slice_get-from n (x ∷ xs) (suc i) = let e : (n + 1) + i ≡ n + suc i = omega arith in slice_get-from (n + 1) xs i ∙ ap (λ k. option_map (λ y. (k, y)) (slice_get xs i)) e
