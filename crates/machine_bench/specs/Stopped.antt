@@ -39,3 +39,5 @@ pub record AfterStop (pick : ℕ) (old new : Bench) : Type 0 where
   pub clock : new.clock ≡ old.clock
   pub fails : new.fails ≡ []
   pub stop : new.stop ≡ None
+  pub faults : new.faults ≡ 0
+  pub wants : new.wants ≡ 0

@@ -206,9 +206,11 @@ fn reads_at_offsets(rt: HostRuntime) -> Result<(), Fail> {
     let mut m = small_bench(rt.alloc(), &[], None)?;
     let read = read_both(&mut m);
     let fetched = m.log.world.fetched;
+    let counted = counts(&m);
     drop(m);
     assert_eq!(rt; read?, [[3, 4, 0, 0], [6, 7, 0, 0]]);
     assert_eq!(rt; fetched, 2);
+    assert_eq!(rt; counted, [0, 0, 0, 3, 0]);
     Ok(())
 }
 

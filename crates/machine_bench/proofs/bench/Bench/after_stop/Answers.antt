@@ -12,6 +12,8 @@ returns-clause-after c = record {
   clock = search rules;
   fails = c.new-3.ensures;
   stop = refl;
+  faults = refl;
+  wants = refl;
 }
 
 pub returns-clause-held : goal.returns-clause-held
