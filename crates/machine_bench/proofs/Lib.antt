@@ -1,6 +1,8 @@
 pub mod Places
 pub mod Undoing
 pub mod Noting
+pub mod Rest
+pub mod Refilling
 pub mod Putting
 pub mod Scripted
 pub mod Settling

@@ -5,7 +5,7 @@ use Rattle.std.specs.Option.{option_and_then, option_map}
 use Rattle.std.specs.List.{AllZip}
 use Rattle.std.proofs.lemmas.Bool.Decides.{nat_tests}
 use Rattle.std.proofs.lemmas.Slice.Eq.{bytes_eq-Decides}
-use Rattle.std.proofs.lemmas.List.{drop-drop, drop-set-lt, ext_get_or, get_or-drop, get_or-set_other, get_or-set_same, take_all, take_more, take_more_set}
+use Rattle.std.proofs.lemmas.List.{drop-drop, drop-set-lt, ext_get_or, get_or-set_other, get_or-set_same, take_all, take_more, take_more_set}
 use Rattle.std.proofs.lemmas.Option.{slice_get-get_or, slice_get_past}
 use Rattle.machine.specs.declared.world.Named.{Named}
 use Rattle.machine.specs.declared.world.Span.{Span}
@@ -19,6 +19,7 @@ use Rattle.machine_bench.specs.Logged.{told_by}
 use Rattle.machine_bench.specs.Stopped.{Picked, PickedByte, PickedBytes, PickedDisk}
 use Rattle.updater_text.specs.Lent.{with_front}
 use Rattle.machine_bench.proofs.Putting.{whole_list}
+use Rattle.machine_bench.proofs.Rest.{same_here}
 use Rattle.machine_bench.proofs.Undoing.{now-past_of}
 
 lt_or_le : (i n : ℕ) → (i < n) ⊎ (n ≤ i)
@@ -48,20 +49,11 @@ all_zip-push R (a ∷ xs) [] x y h r = absurd h
 all_zip-push R (a ∷ xs) (b ∷ ys) x y h r = (h.0, all_zip-push R xs ys x y h.1 r)
 
 module _ (R : Named → Named → Type 0) (initial disks : List Named) (at : ℕ) (v d : Named) (within : at < length disks) (as_many : length disks ≡ length initial) (rest : drop at disks ≡ drop at initial) where
-  same_here : get_or disks at d ≡ get_or initial at d
-  same_here =
-      let none : at + 0 ≡ at = omega arith in
-      ap (λ (k : ℕ). get_or disks k d) (sym none)
-      ∙ sym (get_or-drop at disks 0 d)
-      ∙ ap (λ (ds : List Named). get_or ds 0 d) rest
-      ∙ get_or-drop at initial 0 d
-      ∙ ap (λ (k : ℕ). get_or initial k d) none
-
   pub disks_done : AllZip R (take at initial) (take at disks) → R (get_or disks at d) v → AllZip R (take (at + 1) initial) (take (at + 1) (slice_set disks at v))
   disks_done done here =
       subst (λ (ds : List Named). AllZip R (take (at + 1) initial) ds) (sym (take_more_set disks at v within))
       (subst (λ (ds : List Named). AllZip R ds (take at disks ++ v ∷ [])) (sym (take_more initial at d (omega (arith, within, as_many))))
-      (all_zip-push R (take at initial) (take at disks) (get_or initial at d) v done (subst (λ (x : Named). R x v) same_here here)))
+      (all_zip-push R (take at initial) (take at disks) (get_or initial at d) v done (subst (λ (x : Named). R x v) (same_here disks initial at d rest) here)))
 
   pub disks_rest : drop (at + 1) (slice_set disks at v) ≡ drop (at + 1) initial
   disks_rest =

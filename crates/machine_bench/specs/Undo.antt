@@ -1,5 +1,5 @@
 -- An undo log: the past of a machine in memory, told back from the world as it is now.
-use Rattle.std.specs.Prelude.{◌+◌, ◌-◌, ℕ, List, [], ◌∷◌, length, take, reverse, bytes_eq, is_some, Option, Some, None, if◌then◌else◌}
+use Rattle.std.specs.Prelude.{◌+◌, ◌-◌, ℕ, Bool, true, false, List, [], ◌∷◌, length, take, reverse, bytes_eq, is_some, Option, Some, None, if◌then◌else◌}
 use Rattle.machine.specs.declared.world.Named.{Named}
 use Rattle.machine.specs.declared.world.World.{World}
 use Rattle.machine.specs.World.{disk, patch_under}
@@ -49,6 +49,28 @@ abbrev pub unput : List Named → List ℕ → Option (List ℕ) → List Named
 unput files path None = but_last files
 unput files path (Some bytes) = back_under files path bytes
 
+-- the items at the places that are marked
+abbrev pub marked : {A : Type 0} → List Bool → List A → List A
+marked [] xs = []
+marked (b ∷ bs) [] = []
+marked (true ∷ bs) (x ∷ xs) = x ∷ marked bs xs
+marked (false ∷ bs) (x ∷ xs) = marked bs xs
+
+-- files, but for an empty one at each place that is marked
+abbrev pub emptied : List Bool → List Named → List Named
+emptied [] files = files
+emptied (b ∷ bs) [] = []
+emptied (true ∷ bs) (n ∷ ns) = record { path = []; bytes = [] } ∷ emptied bs ns
+emptied (false ∷ bs) (n ∷ ns) = n ∷ emptied bs ns
+
+-- files with others, in their order, at the places that are marked
+abbrev pub refilled : List Bool → List Named → List Named → List Named
+refilled [] files others = files
+refilled (b ∷ bs) [] others = []
+refilled (false ∷ bs) (n ∷ ns) others = n ∷ refilled bs ns others
+refilled (true ∷ bs) (n ∷ ns) [] = n ∷ refilled bs ns []
+refilled (true ∷ bs) (n ∷ ns) (o ∷ others) = o ∷ refilled bs ns others
+
 -- the world before a change, from the world after it
 abbrev pub undone : Change → World → World
 undone (change.Fetched count) w = record w { fetched = w.fetched - count }
@@ -56,7 +78,7 @@ undone (change.Wrote path at bytes) w = record (with_bytes w path at bytes) { pe
 undone (change.Touched path at bytes) w = record (with_bytes w path at bytes) { pending = but_last w.pending }
 undone (change.Synced pending) w = record w { pending = pending }
 undone (change.Put path replaced) w = record w { files = unput w.files path replaced }
-undone (change.Dropped files) w = record w { files = files }
+undone (change.Dropped places stays) w = record w { files = refilled stays places w.files }
 undone change.Ran w = record w { runs = but_last w.runs }
 
 -- the world before a change, if there was one

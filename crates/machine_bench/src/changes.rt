@@ -1,14 +1,16 @@
-ghost use Rattle.std.specs.Prelude.{◌≡◌, ◌+◌, ◌<◌, ◌≤◌, ◌^◌, ◌++◌, [], ◌∷◌, ℕ, List, Some, None, length, take, drop, filter, not, bytes_eq, unwrap_or, IfOk, IfErr, OnOk, OnErr};
+ghost use Rattle.std.specs.Prelude.{if◌then◌else◌, ◌≡◌, ◌+◌, ◌<◌, ◌≤◌, ◌^◌, ◌++◌, [], ◌∷◌, ℕ, List, Some, None, length, take, drop, filter, not, bytes_eq, unwrap_or, IfOk, IfErr, OnOk, OnErr};
 ghost use Rattle.machine.specs.World.{Holds, bytes_under, disk, fetching, patch_under, patched, put_under, synced, written};
 ghost use Rattle.machine_bench.specs.Scripts.{touched};
 ghost use Rattle.machine_bench.specs.Halves.{halved};
 ghost use Rattle.machine_bench.specs.Undo as spec;
+ghost use Rattle.std.specs.Vec.Iter.{into_iter_items};
 
 use crate::lookup::{bytes_of, find, holds};
 use crate::notes::Change;
 use machine::{Named, Span, World, copy_bytes};
 use std::alloc::Global;
 use std::mem;
+use std::vec::IntoIter;
 use updater_text::{Items, NoMemory, Text};
 
 // Puts bytes in place of others from an offset on.
@@ -216,6 +218,29 @@ fn unput(files: &mut Items<Named>, path: &str, replaced: Option<Items<u8>>)
     }
 }
 
+// Puts the next of the files into a place, if that is marked.
+fn fill_place(place: &mut Named, is_marked: bool, files: &mut IntoIter<Named>)
+    ensures place { place.new ∷ [] ≡ spec.refilled (is_marked ∷ []) (place.old ∷ []) (into_iter_items files.old) }
+    ensures files { into_iter_items files.new ≡ (if is_marked then drop 1 (into_iter_items files.old) else into_iter_items files.old) }
+{
+    if is_marked {
+        if let Some(file) = files.next() {
+            *place = file;
+        }
+    }
+}
+
+// Puts files, in their order, into the places that are marked.
+fn fill_places(places: &mut [Named], marks: &[bool], files: Items<Named>)
+    ensures { places.new ≡ spec.refilled marks.now places.old files }
+{
+    let mut files = files.into_vec().into_iter();
+    let count = places.len().min(marks.len());
+    for at in 0..count {
+        fill_place(&mut places[at], marks[at], &mut files);
+    }
+}
+
 // Takes a change back.
 fn undo(world: &mut World, change: Change)
     ensures { world.new ≡ spec.undone change world.old }
@@ -235,7 +260,10 @@ fn undo(world: &mut World, change: Change)
         }
         Change::Synced { pending } => world.pending = pending,
         Change::Put { path, replaced } => unput(&mut world.files, path.as_str(), replaced),
-        Change::Dropped { files } => world.files = files,
+        Change::Dropped { places, stays } => {
+            let stayed = mem::replace(&mut world.files, places);
+            fill_places(world.files.as_mut_slice(), stays.as_slice(), stayed);
+        }
         Change::Ran => {
             let _ = world.runs.pop();
         }

@@ -1,10 +1,11 @@
-ghost use Rattle.std.specs.Prelude.{◌≡◌, bytes_eq, codes, filter, IfOk, OnOk, OnErr};
+ghost use Rattle.std.specs.Prelude.{◌≡◌, ◌≤◌, ◌<◌, ◌+◌, ◌++◌, [], ◌∷◌, length, map, vec_len, bytes_eq, codes, filter, IfOk, OnOk, OnErr};
+ghost use Rattle.std.specs.Vec.{vec_capacity};
 ghost use Rattle.std.specs.List.{list_any};
 ghost use Rattle.machine.specs.Spares.{is_boot, is_within};
 ghost use Rattle.machine.specs.Spares as machine_spec;
 ghost use Rattle.machine_bench.specs.Scripts.{effected};
 ghost use Rattle.machine_bench.specs.Scripts as spec;
-ghost use Rattle.machine_bench.specs.Undo.{taken_back, undone_by};
+ghost use Rattle.machine_bench.specs.Undo.{emptied, marked, taken_back, undone_by};
 
 use crate::changes::{copy_range, put, take_back, touch};
 use crate::lookup::{bytes_of, holds};
@@ -68,22 +69,50 @@ fn keeps(child: &Child, prefix: &str, path: &str) -> bool
     spares_file(child, path) || !path.as_bytes().starts_with(prefix.as_bytes())
 }
 
-// The files that stay, once more.
-fn kept_files(
+// Which of the files stay.
+fn marks_of(
     alloc: Global,
     files: &[Named],
     child: &Child,
     prefix: &str,
-) -> Result<Items<Named>, NoMemory>
-    ensures { IfOk result (λ kept. kept ≡ filter (λ n. spec.keeps child.now prefix.now n.path) files.now) }
+) -> Result<Items<bool>, NoMemory>
+    ensures { IfOk result (λ stays. stays ≡ map (λ n. spec.keeps child.now prefix.now n.path) files.now) }
 {
-    let mut kept = Items::new(alloc);
+    let mut stays = Items::new(alloc);
     for file in files {
-        if keeps(child, prefix, file.path.as_str()) {
-            kept.push(file.copied(alloc)?)?;
-        }
+        stays.push(keeps(child, prefix, file.path.as_str()))?;
     }
-    Ok(kept)
+    Ok(stays)
+}
+
+// Takes a file, if it is marked, and leaves an empty one in its place.
+fn take_file(alloc: Global, place: &mut Named, is_marked: bool, taken: &mut Vec<Named>)
+    requires { vec_len taken.old < vec_capacity taken.old }
+    ensures place { place.new ∷ [] ≡ emptied (is_marked ∷ []) (place.old ∷ []) }
+    ensures taken { taken.new.items ≡ taken.old.items ++ marked (is_marked ∷ []) (place.old ∷ []) }
+    ensures count { vec_len taken.new ≤ vec_len taken.old + 1 }
+    ensures room { vec_capacity taken.new ≡ vec_capacity taken.old }
+{
+    if is_marked {
+        let empty = Named {
+            path: Text::empty(alloc),
+            bytes: Items::new(alloc),
+        };
+        taken.push_reserved(mem::replace(place, empty));
+    }
+}
+
+// Takes the files that are marked, in their order, and leaves an empty one in the place of each.
+fn take_files(alloc: Global, files: &mut [Named], marks: &[bool], taken: &mut Vec<Named>)
+    requires as_many { length marks.now ≡ length files.old }
+    requires none { taken.old.items ≡ [] }
+    requires room { length files.old ≤ vec_capacity taken.old }
+    ensures files { files.new ≡ emptied marks.now files.old }
+    ensures taken { taken.new.items ≡ marked marks.now files.old }
+{
+    for at in 0..files.len() {
+        take_file(alloc, &mut files[at], marks[at], taken);
+    }
 }
 
 #[tactic(auto, unfolding(machine::specs::World::replaced))]
@@ -121,9 +150,12 @@ fn drop_files(
     ensures back { IfOk result (λ change. undone_by change world.new ≡ world.old) }
     ensures err { OnErr result (world.new ≡ world.old) }
 {
-    let kept = kept_files(alloc, world.files.as_slice(), child, prefix)?;
-    let files = mem::replace(&mut world.files, kept);
-    Ok(Some(Change::Dropped { files }))
+    let stays = marks_of(alloc, world.files.as_slice(), child, prefix)?;
+    let mut stayed = Vec::with_capacity(alloc, world.files.len())?;
+    let files = world.files.as_mut_slice();
+    take_files(alloc, files, stays.as_slice(), &mut stayed);
+    let places = mem::replace(&mut world.files, Items::from_vec(stayed));
+    Ok(Some(Change::Dropped { places, stays }))
 }
 
 fn touch_disk(

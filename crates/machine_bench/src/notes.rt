@@ -50,9 +50,11 @@ pub enum Change {
         path: Text,
         replaced: Option<Items<u8>>,
     },
-    /// These were the files before some were dropped.
+    /// Files were dropped: these were there, but for an empty one at each place that is marked. From
+    /// those places the files that stay were taken, in their order.
     Dropped {
-        files: Items<Named>,
+        places: Items<Named>,
+        stays: Items<bool>,
     },
     /// A child was noted as the last run.
     Ran,
