@@ -1,9 +1,3 @@
-pub mod Places
-pub mod Undoing
-pub mod Noting
-pub mod Rest
-pub mod Refilling
-pub mod Putting
 pub mod Scripted
 pub mod Settling
 pub mod Stopping

@@ -11,15 +11,15 @@ use Rattle.machine.specs.declared.calls.RunStop.TheVariants as run
 use Rattle.machine.specs.declared.world.Child.{Child}
 use Rattle.machine.specs.declared.world.Exit.{Exit}
 use Rattle.machine.specs.declared.world.World.{World}
-use Rattle.machine_bench.specs.declared.notes.Whole.{Whole}
-use Rattle.machine_bench.specs.declared.notes.Whole.TheVariants.{Bytes, TooLong}
-use Rattle.machine_bench.specs.declared.log.UndoLog.{UndoLog}
+use Rattle.undo_log.specs.declared.notes.Whole.{Whole}
+use Rattle.undo_log.specs.declared.notes.Whole.TheVariants.{Bytes, TooLong}
+use Rattle.undo_log.specs.declared.log.UndoLog.{UndoLog}
 use Rattle.machine.specs.Past.{Call, Clock, File, Read, Run, End, Done, Broken, Did, now}
 use Rattle.machine.specs.Calls.{Ends, FileEnds, ReadsFile, RunEnds}
-use Rattle.machine_bench.specs.Whole.{WholeFound, end_whole}
-use Rattle.machine_bench.specs.Logged.{Kept, Noted, end_if, told_by}
+use Rattle.undo_log.specs.Whole.{WholeFound, end_whole}
+use Rattle.undo_log.specs.Logged.{Kept, Noted, end_if, told_by}
 use Rattle.machine_bench.specs.Numbered.{Settled}
-use Rattle.machine_bench.proofs.Undoing.{did_noted, kept_told, now-past_of}
+use Rattle.undo_log.proofs.Undoing.{did_noted, kept_told, now-past_of}
 
 same_ok : {T E : Type 0} (x y : T) → ◌≡◌ {A = Result T E} (Ok x) (Ok y) → x ≡ y
 same_ok x y e = cc

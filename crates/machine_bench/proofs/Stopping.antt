@@ -14,13 +14,13 @@ use Rattle.machine.specs.World.{bytes_under}
 use Rattle.machine.specs.Crash.{Crash, is_in}
 use Rattle.machine.specs.Past.{Grows, Held, Past, now}
 use Rattle.machine.proofs.Moments.{was_now}
-use Rattle.machine_bench.specs.declared.log.UndoLog.{UndoLog}
-use Rattle.machine_bench.specs.Logged.{told_by}
+use Rattle.undo_log.specs.declared.log.UndoLog.{UndoLog}
+use Rattle.undo_log.specs.Logged.{told_by}
 use Rattle.machine_bench.specs.Stopped.{Picked, PickedByte, PickedBytes, PickedDisk}
 use Rattle.updater_text.specs.Lent.{with_front}
-use Rattle.machine_bench.proofs.Putting.{whole_list}
-use Rattle.machine_bench.proofs.Rest.{same_here}
-use Rattle.machine_bench.proofs.Undoing.{now-past_of}
+use Rattle.undo_log.proofs.Putting.{whole_list}
+use Rattle.undo_log.proofs.Rest.{same_here}
+use Rattle.undo_log.proofs.Undoing.{now-past_of}
 
 lt_or_le : (i n : ℕ) → (i < n) ⊎ (n ≤ i)
 lt_or_le i n = grind (arith, nat_tests)

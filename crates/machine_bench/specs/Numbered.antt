@@ -13,7 +13,7 @@ use Rattle.machine.specs.declared.calls.RunStop.{RunStop}
 use Rattle.machine.specs.declared.calls.RunStop.TheVariants as run
 use Rattle.machine_bench.specs.declared.bench.Bench.{Bench}
 use Rattle.machine_bench.specs.declared.setup.Setup.{Setup}
-use Rattle.machine_bench.specs.Logged.{Kept}
+use Rattle.undo_log.specs.Logged.{Kept}
 use Rattle.machine_bench.specs.Scripts.{exit_of, ran_by, script_for}
 
 -- the number is one of those that fail

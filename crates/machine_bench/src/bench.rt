@@ -4,16 +4,14 @@ ghost use Rattle.machine.specs.World.{Holds, file, readable, size_of, written};
 ghost use Rattle.machine.specs.Spares.{is_boot};
 ghost use Rattle.machine.specs.Past.{Clock, Read, Replace, Run, Size, Sync, Write, now};
 ghost use Rattle.machine.specs.Calls.{Counted, Ends, FileCounted, FileEnds, HasRoom, IsKept, IsLong, ReadSome, ReadsFile, RunCounted, RunEnds};
-ghost use Rattle.machine_bench.specs.Logged.{told_by};
+ghost use Rattle.undo_log.specs.Logged.{told_by};
 
-use crate::log::UndoLog;
-use crate::lookup::holds;
-use crate::notes::{Asked, Whole};
 use crate::scripts::{effects_of, exit_of, script_for};
 use crate::setup::{Script, Setup};
 use boot_model::{BootKind, Vars};
 use machine::{CallStop, Child, Copied, Exit, Machine, Named, ReadStop, RunStop, World};
 use std::alloc::Global;
+use undo_log::{Asked, UndoLog, Whole, holds};
 use updater_text::{Items, NoMemory, Text};
 
 /// A machine in memory, which tells its world and its past.
@@ -124,8 +122,8 @@ impl Bench {
 
 impl Bench {
     ghost use Rattle.machine.specs.Past.{Broken, Done, Run};
-    ghost use Rattle.machine_bench.specs.Logged.{Kept, Noted, end_if};
-    ghost use Rattle.machine_bench.specs.Halves.{half_written};
+    ghost use Rattle.undo_log.specs.Logged.{Kept, Noted, end_if};
+    ghost use Rattle.undo_log.specs.Halves.{half_written};
     ghost use Rattle.machine_bench.specs.Scripts as scripts;
     ghost use Rattle.machine_bench.specs.Numbered.{SameBench, SameSetup, Settled, fails_next, halves_next, is_named};
 
@@ -220,7 +218,7 @@ impl Bench {
 }
 
 impl Machine for Bench {
-    ghost use Rattle.machine_bench.specs.Halves.{half_written};
+    ghost use Rattle.undo_log.specs.Halves.{half_written};
     ghost use Rattle.machine_bench.specs.Numbered.{FileObeys, Obeys, RunObeys, SameSetup, halves_next};
 
     ghost tells = { true };

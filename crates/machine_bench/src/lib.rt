@@ -3,11 +3,6 @@
 #![tactic(auto)]
 
 mod bench;
-mod changes;
-mod effects;
-mod log;
-mod lookup;
-mod notes;
 #[cfg(test)]
 mod script_tests;
 mod scripts;
@@ -17,4 +12,5 @@ mod stopped;
 mod tests;
 
 pub use bench::Bench;
-pub use setup::{Effect, Script, Setup};
+pub use setup::{Script, Setup};
+pub use undo_log::Effect;

@@ -3,9 +3,10 @@ ghost use Rattle.std.specs.Option.{option_copied};
 ghost use Rattle.machine.specs.Calls.{IsKept};
 ghost use Rattle.machine_bench.specs.Scripts as spec;
 
-use crate::setup::{Effect, Script};
+use crate::setup::Script;
 use machine::{Child, Ended, Exit, copy_bytes};
 use std::alloc::Global;
+use undo_log::Effect;
 use updater_text::{Items, NoMemory, Text};
 
 // How much is kept of each stream of a child, in bytes.

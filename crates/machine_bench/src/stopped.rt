@@ -2,12 +2,12 @@ ghost use Rattle.std.specs.Prelude.{◌≡◌, ◌-◌, [], IsOk, IfOk};
 ghost use Rattle.std.specs.List.{AllZip};
 ghost use Rattle.machine.specs.Crash.{covers, is_in};
 ghost use Rattle.machine.specs.Past.{Grows, Held, Past, now};
-ghost use Rattle.machine_bench.specs.Logged.{told_by};
+ghost use Rattle.undo_log.specs.Logged.{told_by};
 ghost use Rattle.machine_bench.specs.Stopped.{AfterStop, PickedByte, PickedBytes, PickedDisk};
 
 use crate::bench::Bench;
-use crate::log::UndoLog;
 use machine::{Named, Span, World};
+use undo_log::UndoLog;
 use updater_text::{Items, NoMemory};
 
 // A number below 256 that depends on both in no simple way.

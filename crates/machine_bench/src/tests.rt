@@ -1,9 +1,9 @@
-use crate::lookup::bytes_of;
 use crate::{Bench, Setup};
 use boot_model::{BootKind, Vars};
 use machine::{CallStop, Machine, Named, ReadStop, fill};
 use std::alloc::Global;
 use std::test::Fail;
+use undo_log::bytes_of;
 use updater_text::{Items, NoMemory, Text};
 
 pub(crate) const DISK: &str = "/dev/disk";

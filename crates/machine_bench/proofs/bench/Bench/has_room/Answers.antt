@@ -1,9 +1,9 @@
 use Rattle.std.proofs.Common.{◌≡◌, ◌↔◌, ◌+◌, ℕ, IsTrue, sym, ◌∙◌, ap, subst, arith}
 use Rattle.machine.specs.declared.world.World.{World}
 use Rattle.machine.specs.World.{Holds}
-use Rattle.machine_bench.proofs.Undoing.{now-past_of}
-use Rattle.machine_bench.specs.Scripts.{holds}
-use Rattle.machine_bench.proofs.Scripted.{holds_is, is_held}
+use Rattle.undo_log.proofs.Undoing.{now-past_of}
+use Rattle.undo_log.specs.Effects.{holds}
+use Rattle.undo_log.proofs.Children.{holds_is, is_held}
 use Rattle.machine_bench.proofs.bench.Bench.has_room.Goals as goal
 
 pub returns : goal.returns

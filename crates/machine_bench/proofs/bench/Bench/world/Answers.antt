@@ -1,6 +1,6 @@
 use Rattle.std.proofs.Common.{◌≡◌, IfOk, sym, subst}
 use Rattle.machine.specs.declared.world.World.{World}
-use Rattle.machine_bench.proofs.Undoing.{now-past_of}
+use Rattle.undo_log.proofs.Undoing.{now-past_of}
 use Rattle.machine_bench.proofs.bench.Bench.world.Goals as goal
 
 pub returns : goal.returns

@@ -1,14 +1,14 @@
 use Rattle.std.proofs.Common.{◌≡◌, true, List, ℕ, Result, Ok, Err, IfOk, sym, ◌∙◌, ap, subst}
 use Rattle.machine.specs.declared.world.World.{World}
 use Rattle.machine.specs.declared.calls.CallStop.{CallStop}
-use Rattle.machine_bench.specs.declared.notes.Whole.{Whole}
-use Rattle.machine_bench.specs.declared.log.UndoLog.{UndoLog}
+use Rattle.undo_log.specs.declared.notes.Whole.{Whole}
+use Rattle.undo_log.specs.declared.log.UndoLog.{UndoLog}
 use Rattle.machine.specs.World.{file}
 use Rattle.machine.specs.Past.{now}
 use Rattle.machine.specs.Calls.{FileEnds, ReadsFile}
-use Rattle.machine_bench.specs.Logged.{told_by}
-use Rattle.machine_bench.specs.Whole.{WholeFound}
-use Rattle.machine_bench.proofs.Undoing.{now-past_of}
+use Rattle.undo_log.specs.Logged.{told_by}
+use Rattle.undo_log.specs.Whole.{WholeFound}
+use Rattle.undo_log.proofs.Undoing.{now-past_of}
 use Rattle.machine_bench.proofs.Settling.{reads_whole, settled_file, settled_value, whole_answer}
 use Rattle.machine_bench.proofs.bench.BenchMachine.file_read.Goals as goal
 

@@ -2,7 +2,7 @@ use Rattle.std.proofs.Common.{IfOk, true, sym, subst}
 use Rattle.machine.specs.declared.world.World.{World}
 use Rattle.machine.specs.World.{readable}
 use Rattle.machine.specs.Calls.{ReadSome}
-use Rattle.machine_bench.proofs.Undoing.{now-past_of}
+use Rattle.undo_log.proofs.Undoing.{now-past_of}
 use Rattle.machine_bench.proofs.Settling.{settled_read, settled_value}
 use Rattle.machine_bench.proofs.bench.BenchMachine.read_at.Goals as goal
 

@@ -3,8 +3,8 @@ use Rattle.machine.specs.declared.world.Child.{Child}
 use Rattle.machine.specs.declared.world.Exit.{Exit}
 use Rattle.machine.specs.declared.calls.CallStop.{CallStop}
 use Rattle.machine.specs.Calls.{RunEnds}
-use Rattle.machine_bench.specs.declared.log.UndoLog.{UndoLog}
-use Rattle.machine_bench.specs.Logged.{told_by}
+use Rattle.undo_log.specs.declared.log.UndoLog.{UndoLog}
+use Rattle.undo_log.specs.Logged.{told_by}
 use Rattle.machine_bench.specs.Scripts.{script_for}
 use Rattle.machine_bench.proofs.Scripted.{runs_by}
 use Rattle.machine_bench.proofs.Settling.{run_answer, settled_run}

@@ -3,7 +3,7 @@ use Rattle.machine.specs.declared.world.World.{World}
 use Rattle.machine.specs.World.{size_of}
 use Rattle.machine.specs.Past.{Size}
 use Rattle.machine.specs.Calls.{IsLong}
-use Rattle.machine_bench.proofs.Undoing.{now-past_of}
+use Rattle.undo_log.proofs.Undoing.{now-past_of}
 use Rattle.machine_bench.proofs.Settling.{settled_ends, settled_value}
 use Rattle.machine_bench.proofs.bench.BenchMachine.size.Goals as goal
 

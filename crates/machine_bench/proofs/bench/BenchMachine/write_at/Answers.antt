@@ -1,10 +1,10 @@
 use Rattle.std.proofs.Common.{◌≡◌, ◌+◌, length, IfOk, refl, sym, subst}
 use Rattle.machine.specs.declared.world.World.{World}
-use Rattle.machine_bench.specs.declared.log.UndoLog.{UndoLog}
+use Rattle.undo_log.specs.declared.log.UndoLog.{UndoLog}
 use Rattle.machine.specs.World.{Holds, written}
 use Rattle.machine.specs.Past.{Write, now}
-use Rattle.machine_bench.specs.Logged.{told_by}
-use Rattle.machine_bench.proofs.Undoing.{now-past_of}
+use Rattle.undo_log.specs.Logged.{told_by}
+use Rattle.undo_log.proofs.Undoing.{now-past_of}
 use Rattle.machine_bench.proofs.Settling.{settled_ends, settled_value}
 use Rattle.machine_bench.proofs.bench.BenchMachine.write_at.Goals as goal
 

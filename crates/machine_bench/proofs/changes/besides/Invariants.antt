@@ -1,6 +1,0 @@
-use Rattle.std.proofs.Common.{◌≡◌, ◌++◌, drop, filter, not}
-use Rattle.std.specs.Prelude.{bytes_eq}
-use Rattle.machine_bench.proofs.changes.besides.Given as goal
-
-abbrev pub invariant-loop-span : goal.invariant-loop-span
-invariant-loop-span l = l.kept ++ filter (λ s. not (bytes_eq s.path l.path)) (drop l.span-index l.spans) ≡ filter (λ s. not (bytes_eq s.path l.path)) l.spans
