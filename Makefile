@@ -8,19 +8,19 @@ sources := crates.txt $(shell find crates -name '*.rt' -o -name '*.antt' | grep 
 
 all: $(program)
 
-# The proved program. `rt run` proves it and all below it, and only then builds and runs it (here
-# with no words, which is bad usage).
-$(program): $(sources)
+# A proved program. `rt run` proves it and all below it, and only then builds and runs it (here with
+# no words, which is bad usage). What is proved it keeps in crates/*/out, which git ignores.
+build/%: $(sources)
 	@mkdir -p build
-	@echo "proving and building rauc; the first time this takes some minutes"
-	@rm -f crates/rauc/out/rauc crates/rauc/out/rauc.stamp
-	@cd crates/rauc && rt run > ../../build/proof.log 2>&1; test -x out/rauc || { tail -n 20 ../../build/proof.log; exit 1; }
-	@cp crates/rauc/out/rauc $(program)
+	@echo "proving and building $*: about MINUTES minutes the first time, on four cores"
+	@rm -f crates/$*/out/$* crates/$*/out/$*.stamp
+	@cd crates/$* && rt run > ../../build/$*.log 2>&1; test -x out/$* || { tail -n 20 ../../build/$*.log; exit 1; }
+	@cp crates/$*/out/$* $@
 
 demo: $(program)
 	@bash demo/write_slot.sh $(program)
 
-bench: $(program)
+bench: $(program) build/hash_file
 	@bash bench/configuration.sh $(program)
 	@bash bench/write_slot.sh $(program)
 
