@@ -2,16 +2,21 @@
 # Runs the built program on real files: each image that fits, those that do not, what is missing or in
 # the way, what runs or is mounted, and runs that are cut off. Needs a POSIX shell and coreutils; what
 # needs more is skipped by name. Its last line counts the cases.
+# Use: tests/end_to_end.sh [PROGRAM]. Without a program it has make build one first.
 set -u
+program=''
+if [ $# -gt 0 ]; then program=$(realpath "$1") || exit 2; fi
 cd "$(dirname "$0")/.." || exit 2
-top=$PWD
-if ! command -v rt > /dev/null; then
-  echo "skipped: end_to_end, since the toolchain's command rt is missing"
-  exit 0
+if [ -z "$program" ]; then
+  if ! command -v rt > /dev/null; then
+    echo "skipped: end_to_end, since the toolchain's command rt is missing"
+    exit 0
+  fi
+  make -s build/rauc || exit 1
+  program=$PWD/build/rauc
 fi
-make -s build/rauc || exit 1
-program=$top/build/rauc
-scratch=$(mktemp -d "$top/build/end_to_end.XXXXXX")
+mkdir -p build
+scratch=$(mktemp -d "$PWD/build/end_to_end.XXXXXX")
 trap 'rm -rf "$scratch"' EXIT
 cd "$scratch" || exit 2
 passed=0

@@ -3,16 +3,24 @@
 # and leaves: status 2 and the line of the fault (or all done, where the call is but a hint), the slot
 # that runs as before, and an end in time.
 # Needs bash, coreutils and strace. Its last line counts the cases.
+# Use: tests/system_calls.sh [PROGRAM]. Without a program it has make build one first.
 set -u
+program=''
+if [ $# -gt 0 ]; then program=$(realpath "$1") || exit 2; fi
 cd "$(dirname "$0")/.." || exit 2
-for command in rt strace; do
-  if ! command -v "$command" > /dev/null; then
-    echo "skipped: system_calls, since the command $command is missing"
+if ! command -v strace > /dev/null; then
+  echo "skipped: system_calls, since the command strace is missing"
+  exit 0
+fi
+if [ -z "$program" ]; then
+  if ! command -v rt > /dev/null; then
+    echo "skipped: system_calls, since the toolchain's command rt is missing"
     exit 0
   fi
-done
-make -s build/rauc || exit 1
-program=$PWD/build/rauc
+  make -s build/rauc || exit 1
+  program=$PWD/build/rauc
+fi
+mkdir -p build
 scratch=$(mktemp -d build/system_calls.XXXXXX)
 trap 'rm -rf "$OLDPWD/$scratch"' EXIT
 cd "$scratch" || exit 2
