@@ -1,8 +1,9 @@
-ghost use Rattle.std.specs.Prelude.{◌≡◌, ◌≤◌, ◌++◌, ℕ, List, Some, false, option_map, vec_len, IfOk, OnOk};
+ghost use Rattle.std.specs.Prelude.{◌≡◌, ◌≤◌, ◌++◌, ◌↔◌, ◌<◌, ℕ, List, Some, pos, false, IfSome, IsTrue, length, take, option_map, vec_len, IfOk, OnOk};
 ghost use Rattle.std.specs.Option.{option_or};
-ghost use Rattle.std.specs.Process.{SameEnv, SameOtherVars, SameProgramAndArgs, clears_env, command_args, command_program, command_var};
+ghost use Rattle.std.specs.Process.{SameEnv, SameOtherVars, SameProgramAndArgs, clears_env, command_args, command_program, command_var, exit_code};
 ghost use Rattle.machine_linux.specs.Started.{last_var};
 ghost use Rattle.machine.specs.Calls.{IsKept};
+ghost use Rattle.machine.specs.declared.world.Ended.TheVariants.{Code};
 
 use crate::whole::stop_of;
 use machine::{CallStop, Child, Ended, EnvVar, Exit};
@@ -26,7 +27,10 @@ struct Kept {
 
 // The front of a stream. The rest is read to its end and dropped, so that the child never waits for
 // room to write.
-fn keep_front<S: Read + Drop>(mut stream: S, mut bytes: Vec<u8>) -> io::Result<Kept> {
+fn keep_front<S: Read + Drop>(mut stream: S, mut bytes: Vec<u8>) -> io::Result<Kept>
+    ensures front { IfOk result (λ kept. IfSome (S.remaining stream) (λ xs. kept.bytes.items ≡ take 65536 (bytes.items ++ xs))) }
+    ensures cut { IfOk result (λ kept. IfSome (S.remaining stream) (λ xs. IsTrue kept.cut ↔ (65536 < length (bytes.items ++ xs)))) }
+{
     (&mut stream).take(KEPT as u64 + 1).read_to_end(&mut bytes)?;
     let cut = bytes.len() > KEPT;
     if cut {
@@ -109,7 +113,10 @@ fn read_both<R: Threads>(
     Some((out, err?))
 }
 
-fn ended_of(status: ExitStatus) -> Ended {
+// How a child ended that ended so.
+fn ended_of(status: ExitStatus) -> Ended
+    ensures { (code : ℕ) → (result ≡ Code code) ↔ (exit_code status ≡ Some (pos code)) }
+{
     let code = status.code().and_then(|code| u8::try_from(code).ok());
     match code {
         Some(code) => Ended::Code(code),

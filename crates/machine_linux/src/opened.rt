@@ -1,4 +1,4 @@
-ghost use Rattle.std.specs.Prelude.{◌≡◌, ◌↔◌, IfOk, IfSome, IsTrue};
+ghost use Rattle.std.specs.Prelude.{◌≡◌, ◌↔◌, ◌<◌, ◌-◌, min, length, IfOk, IfSome, IsTrue};
 ghost use Rattle.std.specs.IoError.{error_kind};
 ghost use Rattle.machine_linux.specs.Reads.{NamesNothing, PutFront};
 
@@ -61,9 +61,11 @@ impl<F> Opened<F> {
 }
 
 impl<F: FileExt> Opened<F> {
-    // Reads bytes from `at` on into the front of `into`. None come only where the system gives none.
+    // Reads bytes from `at` on into the front of `into`: all that lie within the length that it had, and
+    // where none do, what the system gives.
     pub fn read_at(&self, at: u64, into: &mut [u8]) -> io::Result<usize>
-        ensures { IfOk result (PutFront into.old into.new) }
+        ensures put { IfOk result (PutFront into.old into.new) }
+        ensures known { let known = min (self.now.length - at) (length into.old) in IfOk result (λ count. 0 < known → count ≡ known) }
     {
         let known = self.length.saturating_sub(at).min(into.len() as u64) as usize;
         if known == 0 {

@@ -1,4 +1,7 @@
-ghost use Rattle.std.specs.Prelude.{◌<◌, ◌^◌, IfOk, IfSome};
+ghost use Rattle.std.specs.Prelude.{◌≡◌, ◌↔◌, ◌<◌, ◌^◌, None, IfOk, IfSome};
+ghost use Rattle.std.specs.IoError.{error_kind, raw_os_error};
+ghost use Rattle.std.specs.declared.io.ErrorKind.TheVariants.{OutOfMemory};
+ghost use Rattle.machine.specs.declared.calls.CallStop.TheVariants.{NoMemory};
 ghost use Rattle.machine_linux.specs.Reads.{Fits};
 
 use crate::opened::names_nothing;
@@ -57,7 +60,9 @@ pub fn read_whole<R: Files>(
 }
 
 // Why a call of std gave no value: memory for it was refused, or the system failed.
-pub fn stop_of(error: &io::Error) -> CallStop {
+pub fn stop_of(error: &io::Error) -> CallStop
+    ensures { (result ≡ NoMemory) ↔ ((error_kind error.now ≡ OutOfMemory) × (raw_os_error error.now ≡ None)) }
+{
     if error.kind() == ErrorKind::OutOfMemory && error.raw_os_error().is_none() {
         CallStop::NoMemory
     } else {
