@@ -13,6 +13,7 @@ use machine::{CallStop, Child, Exit, Machine, ReadStop, RunStop};
 use std::alloc::Global;
 use std::fs::OpenOptions;
 use std::marker::Model;
+use std::os::fd::AsRawFd;
 use std::os::unix::fs::FileExt;
 use std::process::{Processes, SystemProcess};
 use std::rt::Files;
@@ -25,7 +26,8 @@ mod run_tests;
 #[cfg(test)]
 mod tests;
 
-/// A machine over the files, devices and programs of a system. It tells no world. Contracts see its two counts.
+/// A machine over the files, devices and programs of a system. It tells no world. Contracts see its
+/// two counts.
 ///
 /// A path names nothing where the system answers ENOENT or ENOTDIR. Every other error of the system
 /// is a fault, as for a directory or where a file ends before the length that it had when it was
@@ -33,7 +35,8 @@ mod tests;
 ///
 /// It keeps open the file that it read at an offset last, and the one that it wrote last, so that
 /// a copy of a whole image opens each once. A file is let go where a call on it fails, before a file
-/// is put in its place, and before any child is run.
+/// is put in its place, and before any child is run. After each MiB that is written the kernel is told
+/// to begin to move it to the device, so that a sync has little to wait for.
 ///
 /// A file that is to replace another is written beside it, with `.new` after its name. A child has
 /// the variables of this process and those that it is given, no input, and no other open file.
@@ -112,7 +115,7 @@ impl<R: Files + Drop> Linux<R> {
 
 impl<R: Files + Drop> Linux<R>
 where
-    R::File: FileExt,
+    R::File: FileExt + AsRawFd,
 {
     // Reads from the file at the path, and keeps it open.
     fn read_some(&mut self, path: &str, at: u64, into: &mut [u8]) -> Result<usize, CallStop>
@@ -184,7 +187,7 @@ fn seconds<C: Clock>(clock: &C) -> Result<i64, CallStop> {
 
 impl<R: Files + Processes<Started = SystemProcess> + Threads + Clock + Drop> Machine for Linux<R>
 where
-    R::File: FileExt,
+    R::File: FileExt + AsRawFd,
 {
     ghost tells = { false };
 

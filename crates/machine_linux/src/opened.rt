@@ -7,12 +7,16 @@ use std::alloc::Global;
 use std::fs::{OpenFile, OpenOptions};
 use std::io;
 use std::io::{ErrorKind, Seek, SeekFrom};
+use std::os::fd::AsRawFd;
 use std::os::unix::fs::FileExt;
 use std::rt::Files;
 use updater_text::Text;
 
-// How much a read past the known length takes.
+// How much a read past the known length takes, in bytes.
 const TAIL: usize = 4096;
+
+// How much is written before the kernel is to begin with it, in bytes.
+const STRETCH: u64 = 1 << 20;
 
 // A file that stays open between calls.
 #[derive(Drop)]
@@ -85,10 +89,25 @@ impl<F: FileExt> Opened<F> {
         into[..count].copy_from_slice(&tail[..count]);
         Ok(count)
     }
+}
 
+impl<F: FileExt + AsRawFd> Opened<F> {
     // Writes all the bytes from `at` on.
     pub fn write_at(&self, at: u64, from: &[u8]) -> io::Result<()> {
-        self.file.write_all_at(from, at)
+        self.file.write_all_at(from, at)?;
+        self.start_writing(at.saturating_add(from.len() as u64));
+        Ok(())
+    }
+
+    // Has the kernel begin to move the bytes before `end` to the device, where a whole stretch of them
+    // ends there: without this it may begin only at the sync, which then waits for all of it.
+    fn start_writing(&self, end: u64) {
+        if end % STRETCH == 0 {
+            if let Ok(start) = i64::try_from(end.saturating_sub(STRETCH)) {
+                let fd = self.file.as_raw_fd();
+                let _ = libc::posix_fadvise(fd, start, STRETCH as i64, libc::POSIX_FADV_DONTNEED);
+            }
+        }
     }
 }
 
