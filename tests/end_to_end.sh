@@ -243,6 +243,8 @@ fi
 if command -v strace > /dev/null; then
   strace -f -o calls "$program" write-slot --override-boot-slot=A -c c rootfs.1 large.img > /dev/null
   at_most $((3 * 4096)) "$(($(wc -l < calls)))" "system calls for 4096 pieces"
+  strace -qq -o calls -e trace=fadvise64 "$program" write-slot --override-boot-slot=A -c c rootfs.1 large.img > /dev/null
+  if [ "$(($(wc -l < calls)))" = 256 ]; then pass; else fail "not each of 256 MiB is begun with early: $(wc -l < calls)"; fi
 else
   echo "skipped: system calls, since strace is missing"
 fi
