@@ -1,8 +1,9 @@
 //! Prints the SHA-256 of a file, which it reads in pieces of 65,536 bytes: the least that a write of
 //! an image has to do, for the benchmark.
 //!
-//! Use: `hash_file FILE`. The exit status is 0, or 1 with a line on standard error where the file
-//! cannot be read or memory is wanting.
+//! Use: `hash_file FILE`. The exit status is 0, or 1 with a line on standard error where no file is
+//! named, the words are not UTF-8, the file cannot be read, the digest cannot be printed, or memory is
+//! wanting.
 #![tactic(auto)]
 
 ghost use Rattle.std.specs.Prelude.{◌<◌, ◌≡◌, length, IfOk, IfSome};
@@ -17,7 +18,7 @@ use std::process::ExitCode;
 /// The bytes that a read asks for.
 const PIECE: usize = 65_536;
 
-/// The SHA-256 of all that the reader has left. Where a read fails it answers that error; after 2^64
+/// The SHA-256 of all that the reader has left. Where a read fails it answers that error; after 2^64 - 1
 /// reads that give something it gives up with `TimedOut`, which no file comes to.
 fn digest_of<R: Read>(reader: &mut R, buffer: &mut [u8]) -> io::Result<[u8; 32]>
     requires { 0 < length buffer.old }

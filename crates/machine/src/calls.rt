@@ -25,16 +25,17 @@ pub enum ReadStop {
     NoMemory,
 }
 
-/// Why a child gave no end: it was not started, or memory was wanting.
+/// Why a child gave no end: the call failed, or memory was wanting.
 #[derive(Clone, Copy, Debug, PartialEq, Eq)]
 pub enum RunStop {
     Failed,
     NoMemory,
 }
 
-/// The calls through which the updater reaches the outside, one read, write, sync, replacement or
-/// child each. A machine may tell its world and its past; what a call does to them, and the worlds in which the power may
-/// stop inside it, are its contract.
+/// The calls through which the updater reaches the outside: each is one read, write, sync or
+/// replacement, the asking for a length, one child, or a look at the clock. A machine may tell its
+/// world and its past; what a call does to them, and the worlds in which the power may stop inside it,
+/// are its contract.
 pub trait Machine {
     /// Whether it tells its world and its past. It is of the type, so nothing changes it.
     ghost tells: { Bool };
@@ -93,7 +94,8 @@ pub trait Machine {
         ensures counts { Counted (faults self.old) (faults self.new) (wants self.old) (wants self.new) result };
 
     /// Runs a program to its end, and keeps the first 65,536 bytes of what it puts out on each
-    /// stream. It leaves alone what it must spare. `Failed` tells that it was not started.
+    /// stream. It leaves alone what it must spare. `Failed` tells that it gave no end: a machine that
+    /// tells its world has changed nothing then; over a real system it may have been started.
     fn run(&mut self, alloc: Global, child: &Child) -> Result<Exit, RunStop>
         requires { is_boot child.now.class ≡ false }
         ensures past { IsTrue tells → RunEnds (past self.old) (past self.new) child.now result }

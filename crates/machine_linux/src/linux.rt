@@ -29,14 +29,17 @@ mod tests;
 /// A machine over the files, devices and programs of a system. It tells no world. Contracts see its
 /// two counts.
 ///
-/// A path names nothing where the system answers ENOENT or ENOTDIR. Every other error of the system
-/// is a fault, as for a directory or where a file ends before the length that it had when it was
-/// opened. Every file counts as a disk.
+/// A path names nothing where the system answers ENOENT or ENOTDIR; to write or sync there is a fault.
+/// Every other error of the system is a fault too, as for a directory or where a file ends before the
+/// length that it had when it was opened, but for three: where the end of an open file cannot be
+/// sought its length counts as not known, and advice that is not taken and a file beside another that
+/// cannot be removed are passed over. Every file counts as a disk.
 ///
 /// It keeps open the file that it read at an offset last, and the one that it wrote last, so that
 /// a copy of a whole image opens each once. A file is let go where a call on it fails, before a file
-/// is put in its place, and before any child is run. After each MiB that is written the kernel is told
-/// to begin to move it to the device, so that a sync has little to wait for.
+/// is put in its place, and before any child is run. Where a write ends at a
+/// whole MiB, the kernel is advised that this MiB is not needed any more, on which Linux begins to write
+/// it back (though it does not promise to), so that a sync has little to wait for.
 ///
 /// A file that is to replace another is written beside it, with `.new` after its name. A child has
 /// the variables of this process and those that it is given, no input, and no other open file.

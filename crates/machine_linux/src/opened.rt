@@ -15,7 +15,7 @@ use updater_text::Text;
 // How much a read past the known length takes, in bytes.
 const TAIL: usize = 4096;
 
-// How much is written before the kernel is to begin with it, in bytes.
+// How much is written before the kernel is advised to begin with it, in bytes.
 const STRETCH: u64 = 1 << 20;
 
 // A file that stays open between calls.
@@ -99,8 +99,9 @@ impl<F: FileExt + AsRawFd> Opened<F> {
         Ok(())
     }
 
-    // Has the kernel begin to move the bytes before `end` to the device, where a whole stretch of them
-    // ends there: without this it may begin only at the sync, which then waits for all of it.
+    // Advises the kernel that the bytes before `end` are not needed any more, where a whole stretch of
+    // them ends there. Linux begins to write them back then, where else it may begin only at the sync,
+    // which waits for all of it.
     fn start_writing(&self, end: u64) {
         if end % STRETCH == 0 {
             if let Ok(start) = i64::try_from(end.saturating_sub(STRETCH)) {

@@ -1,4 +1,4 @@
-//! Which slots run, which may be written, and what is mounted.
+//! Which slots run, which roots they lie under, and what is mounted.
 #![tactic(auto)]
 
 mod kernel;

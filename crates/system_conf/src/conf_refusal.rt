@@ -1,7 +1,8 @@
 use updater_text::Text;
 
 /// Why a configuration is refused. Groups are named as they stand in the file, slots without
-/// `slot.`. The refusals come in this order; of one kind, the first in file order comes.
+/// `slot.`. The refusals come in this order. Of one kind the first in file order comes, but of missing
+/// keys `compatible`, `bootloader`, the devices in file order, then the program of a custom boot loader.
 #[derive(Debug, Drop)]
 pub enum ConfRefusal {
     /// A mandatory key is not there: `compatible` or `bootloader` of `[system]`, `device` of a slot,

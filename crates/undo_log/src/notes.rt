@@ -14,7 +14,7 @@ pub enum Asked {
     Clock { seconds: i64 },
 }
 
-/// How a numbered call ended: it was done, it failed, or the file was longer than asked for.
+/// How a call ended: it was done, it failed, or the file was longer than asked for.
 #[derive(Clone, Copy, Debug, PartialEq, Eq)]
 pub enum Outcome {
     Done,
@@ -60,7 +60,7 @@ pub enum Change {
     Ran,
 }
 
-/// A numbered call, and the changes that it made.
+/// A call, and the changes that it made.
 #[derive(Drop)]
 pub struct Note {
     pub asked: Asked,
