@@ -21,11 +21,11 @@ demo: $(program)
 	@bash demo/write_slot.sh $(program)
 
 bench: $(program) build/hash_file
-	@bash bench/configuration.sh $(program)
 	@bash bench/write_slot.sh $(program)
+	@bash bench/configuration.sh $(program)
 
 check:
-	rt ci
+	.ci/run
 
 clean:
 	rm -rf build crates/*/out

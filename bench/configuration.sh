@@ -2,8 +2,8 @@
 # How long the built program takes to read a configuration: files of comments, of many groups with
 # twenty keys each, of as many short keys as fit, and of 64 slots, each at three lengths; and files of
 # 1 MiB with fewer slots. Prints the best of nine runs in ms, and MB/s; the times hold the start of the
-# program too. A file of 1 MiB is to take less than 50 ms, and one with 64 slots less than 100 ms: the
-# status is 1 where one takes longer. Needs bash and coreutils.
+# program too. Each file is to take less than 50 ms, those with slots less than 100 ms: the
+# status is 1 where one takes longer. Needs bash, coreutils, awk, sed and grep.
 set -eu
 program=$(realpath "${1:-build/rauc}")
 scratch=$(mktemp -d)

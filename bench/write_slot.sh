@@ -3,9 +3,9 @@
 # Debian's rauc, where it is installed) and beside hashing alone by the same sha2 (build/hash_file, if
 # it was built), in one run on the same files: the best of three runs in ms, MB/s, and how many times as
 # long as the program each takes; then system calls for each 65,536 bytes and the largest resident
-# memory. Needs bash and coreutils; strace and time where they are installed.
+# memory. Needs bash, coreutils and awk; strace and GNU time where they are installed.
 # Use: bench/write_slot.sh [PROGRAM [MIB..]]
-set -eu
+set -euo pipefail
 program=$(realpath "${1:-build/rauc}")
 hash_file=$(dirname "$program")/hash_file
 [ $# -gt 0 ] && shift
@@ -33,7 +33,11 @@ write_by_rauc() { "$@" "$program" write-slot -c system.conf --override-boot-slot
 # its name.
 write_by_debian() { /usr/bin/rauc write-slot -c system.conf rootfs.1 image.img; }
 write_by_dd() { dd if=image.img of=device bs=64K conv=fsync,notrunc status=none; }
-write_and_hash() { dd if=image.img bs=64K status=none | tee device | sha256sum; sync device; }
+write_and_hash() { dd if=image.img bs=64K status=none | tee device | sha256sum && sync device; }
+# tee cuts a file off first, which no device does; the program does not.
+write_in_place_and_hash() {
+  dd if=image.img bs=64K status=none | tee >(dd of=device bs=64K iflag=fullblock conv=notrunc status=none) | sha256sum && sync device
+}
 
 # best WORD..: the best of three runs of a command, in microseconds.
 best() {
@@ -70,6 +74,7 @@ for size in "$@"; do
   print "rauc write-slot" "$size" "$ours" "$ours"
   row "dd conv=fsync" "$size" "$ours" write_by_dd
   row "dd | tee | sha256sum; sync" "$size" "$ours" write_and_hash
+  row "the same in place" "$size" "$ours" write_in_place_and_hash
   row "sha256sum" "$size" "$ours" sha256sum image.img
   if [ -x "$hash_file" ]; then
     row "the same sha2 alone" "$size" "$ours" "$hash_file" image.img
@@ -77,7 +82,7 @@ for size in "$@"; do
   if [ -x /usr/bin/rauc ]; then
     row "Debian's rauc write-slot" "$size" "$ours" write_by_debian
   fi
-  if command -v strace > /dev/null; then
+  if strace -o /dev/null true 2> /dev/null; then
     write_by_rauc strace -f -o calls > said
     awk -v calls="$(wc -l < calls)" -v pieces=$((size << 4)) 'BEGIN { printf "  %.2f system calls for each piece\n", calls / pieces }'
   fi

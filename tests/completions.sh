@@ -1,5 +1,5 @@
 #!/usr/bin/env bash
-# Completes words of `rauc` in bash and compares what is offered. Needs bash and sed. Its last line
+# Completes words of `rauc` in bash and compares what is offered. Needs bash, coreutils and sed. Its last line
 # counts the cases.
 set -u
 cd "$(dirname "$0")/.." || exit 2

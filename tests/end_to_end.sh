@@ -2,7 +2,7 @@
 # Runs the built program on real files: each image that fits, those that do not, what is missing or in
 # the way, what runs or is mounted, and runs that are cut off. Needs a POSIX shell and coreutils; what
 # needs more is skipped by name. Its last line counts the cases.
-# Use: tests/end_to_end.sh [PROGRAM]. Without a program it has make build one first.
+# Use: tests/end_to_end.sh [PROGRAM]. Without a program it has make and rt build one first.
 set -u
 program=''
 if [ $# -gt 0 ]; then program=$(realpath "$1") || exit 2; fi
@@ -81,6 +81,13 @@ at_most() {
   else
     fail "${2:-no count of} $3, over $1"
   fi
+}
+
+# others BYTE COMMAND..: how many bytes of the command's output are not this one.
+others() {
+  byte=$1
+  shift
+  printf '%s' "$(($("$@" | tr -d "$byte" | wc -c)))"
 }
 
 # conf DEVICE: a configuration with the slots rootfs.0 on the file a, rootfs.1 on this device, and
@@ -183,8 +190,10 @@ chmod 755 .
 if $as test -x "$program" -a -r c 2> /dev/null; then
   chmod 000 full.img
   writes 2 "rauc: outside fault: read" rootfs.1 full.img
-  chmod 644 full.img b
-  [ -n "$as" ] && writes 2 "rauc: outside fault: write" rootfs.1 full.img
+  chmod 644 full.img
+  chmod 444 b
+  writes 2 "rauc: outside fault: write" rootfs.1 full.img
+  chmod 644 b
 else
   echo "skipped: files without rights, since no other user can run the program here"
 fi
@@ -198,6 +207,8 @@ same full.img b
 if [ -w /dev/full ]; then
   "$program" --help > /dev/full 2> said
   if [ $? = 2 ]; then pass; else fail "a full output: $(cat said)"; fi
+else
+  echo "skipped: a full output, since /dev/full is missing"
 fi
 
 # ---- a file system without room for what is written
@@ -227,10 +238,20 @@ same large.img b
 same large.img d
 slots 268435456
 "$program" write-slot --override-boot-slot=A -c c rootfs.1 large.img > one 2>&1 &
-sleep 0.1
-kill -9 $! 2> /dev/null
-wait $! 2> /dev/null
-if [ ! -s one ]; then pass; else fail "it was to be cut off: $(cat one)"; fi
+writer=$!
+tries=0
+while [ "$(others b head -c 65536 b)" = 0 ] && [ "$tries" -lt 200 ]; do
+  sleep 0.05
+  tries=$((tries + 1))
+done
+kill -9 "$writer" 2> /dev/null
+wait "$writer" 2> /dev/null
+# Its first bytes are written then, and its last are not.
+if [ ! -s one ] && [ "$(others b head -c 65536 b)" != 0 ] && [ "$(others b tail -c 65536 b)" = 0 ]; then
+  pass
+else
+  fail "it was to be cut off on the way: $(cat one)"
+fi
 same a running
 writes 0 "$(written rootfs.1 large.img)" rootfs.1 large.img
 same large.img b
@@ -240,13 +261,14 @@ if [ -x /usr/bin/time ]; then
 else
   echo "skipped: resident memory, since /usr/bin/time is missing"
 fi
-if command -v strace > /dev/null; then
-  strace -f -o calls "$program" write-slot --override-boot-slot=A -c c rootfs.1 large.img > /dev/null
+if strace -o /dev/null true 2> /dev/null; then
+  strace -f -qq -o calls "$program" write-slot --override-boot-slot=A -c c rootfs.1 large.img > one
+  if [ "$(cat one)" = "$(written rootfs.1 large.img)" ]; then pass; else fail "a traced run: $(cat one)"; fi
   at_most $((3 * 4096)) "$(($(wc -l < calls)))" "system calls for 4096 pieces"
   strace -qq -o calls -e trace=fadvise64 "$program" write-slot --override-boot-slot=A -c c rootfs.1 large.img > /dev/null
   if [ "$(($(wc -l < calls)))" = 256 ]; then pass; else fail "not each of 256 MiB is begun with early: $(wc -l < calls)"; fi
 else
-  echo "skipped: system calls, since strace is missing"
+  echo "skipped: system calls, since strace is missing or cannot trace here"
 fi
 same a running
 
