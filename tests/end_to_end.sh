@@ -4,18 +4,8 @@
 # needs more is skipped by name. Its last line counts the cases.
 # Use: tests/end_to_end.sh [PROGRAM]. Without a program it has make and rt build one first.
 set -u
-program=''
-if [ $# -gt 0 ]; then program=$(realpath "$1") || exit 2; fi
-cd "$(dirname "$0")/.." || exit 2
-if [ -z "$program" ]; then
-  if ! command -v rt > /dev/null; then
-    echo "skipped: end_to_end, since the toolchain's command rt is missing"
-    exit 0
-  fi
-  make -s build/rauc || exit 1
-  program=$PWD/build/rauc
-fi
-mkdir -p build
+check=end_to_end
+. "$(dirname "$0")/lib/program.sh"
 scratch=$(mktemp -d "$PWD/build/end_to_end.XXXXXX")
 trap 'rm -rf "$scratch"' EXIT
 cd "$scratch" || exit 2
@@ -256,7 +246,7 @@ same a running
 writes 0 "$(written rootfs.1 large.img)" rootfs.1 large.img
 same large.img b
 if [ -x /usr/bin/time ]; then
-  memory=$(/usr/bin/time -f %M "$program" write-slot --override-boot-slot=A -c c rootfs.1 large.img 2>&1 > /dev/null)
+  memory=$(/usr/bin/time -f %M "$program" write-slot --override-boot-slot=A -c c rootfs.1 large.img 2>&1 > /dev/null | tail -n 1)
   at_most 8191 "$memory" "KiB resident for an image of 256 MiB"
 else
   echo "skipped: resident memory, since /usr/bin/time is missing"

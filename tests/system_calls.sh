@@ -6,22 +6,12 @@
 # counts the cases.
 # Use: tests/system_calls.sh [PROGRAM]. Without a program it has make build one first.
 set -u
-program=''
-if [ $# -gt 0 ]; then program=$(realpath "$1") || exit 2; fi
-cd "$(dirname "$0")/.." || exit 2
 if ! strace -o /dev/null true 2> /dev/null; then
   echo "skipped: system_calls, since strace is missing or cannot trace here"
   exit 0
 fi
-if [ -z "$program" ]; then
-  if ! command -v rt > /dev/null; then
-    echo "skipped: system_calls, since the toolchain's command rt is missing"
-    exit 0
-  fi
-  make -s build/rauc || exit 1
-  program=$PWD/build/rauc
-fi
-mkdir -p build
+check=system_calls
+. "$(dirname "$0")/lib/program.sh"
 scratch=$(mktemp -d build/system_calls.XXXXXX)
 trap 'rm -rf "$OLDPWD/$scratch"' EXIT
 cd "$scratch" || exit 2
