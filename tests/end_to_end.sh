@@ -22,19 +22,25 @@ fail() {
 # The words that run the program as another user, if any.
 as=''
 
-# expect STATUS LINE WORDS..: the run ends with the status, and LINE is all that it prints.
+# expect STATUS LINE WORDS..: the run ends with the status, and LINE is all that it prints: on standard
+# output where the status is 0, else on standard error.
 expect() {
   status=$1
   line=$2
   shift 2
-  said=$($as "$program" "$@" 2>&1)
+  $as "$program" "$@" > said_out 2> said_err
   code=$?
-  if [ "$code" = "$status" ] && [ "$said" = "$line" ]; then
+  if [ "$status" = 0 ]; then
+    said=$(cat said_out) && quiet=said_err
+  else
+    said=$(cat said_err) && quiet=said_out
+  fi
+  if [ "$code" = "$status" ] && [ "$said" = "$line" ] && [ ! -s "$quiet" ]; then
     pass
   else
     fail "rauc $*
   wanted $status: $line
-  got    $code: $said"
+  got    $code: $(cat said_out said_err)"
   fi
 }
 
@@ -71,6 +77,33 @@ at_most() {
   else
     fail "${2:-no count of} $3, over $1"
   fi
+}
+
+# advice FILE: of the traced calls of a write, sets `advised` to how often the kernel is advised, and
+# `unwritten` to how often of bytes behind the end of what is written by then.
+advice() {
+  advised=0
+  unwritten=0
+  end=0
+  while read -r call; do
+    words=${call%)*}
+    case $call in
+      pwrite64*)
+        at=${words##*, }
+        words=${words%, *}
+        count=${words##*, }
+        [ $((at + count)) -le "$end" ] || end=$((at + count))
+        ;;
+      fadvise64*)
+        words=${words%, *}
+        count=${words##*, }
+        words=${words%, *}
+        at=${words##*, }
+        advised=$((advised + 1))
+        [ $((at + count)) -le "$end" ] || unwritten=$((unwritten + 1))
+        ;;
+    esac
+  done < "$1"
 }
 
 # others BYTE COMMAND..: how many bytes of the command's output are not this one.
@@ -190,6 +223,20 @@ fi
 as=''
 same b before
 
+# ---- a block device, which ends where it can be sought to
+head -c 4096 /dev/zero > disk
+if loop=$(losetup -f --show disk 2> /dev/null); then
+  trap 'losetup -d "$loop"; rm -rf "$scratch"' EXIT
+  conf "$loop" > loop.conf
+  expect 1 "rauc: image long.img: 4097 bytes do not fit device of 4096" write-slot --override-boot-slot=A -c loop.conf rootfs.1 long.img
+  expect 0 "$(written rootfs.1 full.img)" write-slot --override-boot-slot=A -c loop.conf rootfs.1 full.img
+  same full.img disk
+  losetup -d "$loop"
+  trap 'rm -rf "$scratch"' EXIT
+else
+  echo "skipped: a block device, since no loop device can be set up here"
+fi
+
 # ---- an output that takes nothing
 "$program" write-slot --override-boot-slot=A -c c rootfs.1 full.img >&- 2> said
 if [ $? = 2 ]; then pass; else fail "a closed output: $(cat said)"; fi
@@ -255,8 +302,10 @@ if strace -o /dev/null true 2> /dev/null; then
   strace -f -qq -o calls "$program" write-slot --override-boot-slot=A -c c rootfs.1 large.img > one
   if [ "$(cat one)" = "$(written rootfs.1 large.img)" ]; then pass; else fail "a traced run: $(cat one)"; fi
   at_most $((3 * 4096)) "$(($(wc -l < calls)))" "system calls for 4096 pieces"
-  strace -qq -o calls -e trace=fadvise64 "$program" write-slot --override-boot-slot=A -c c rootfs.1 large.img > /dev/null
-  if [ "$(($(wc -l < calls)))" = 256 ]; then pass; else fail "not each of 256 MiB is begun with early: $(wc -l < calls)"; fi
+  strace -qq -o calls -e trace=pwrite64,fadvise64 "$program" write-slot --override-boot-slot=A -c c rootfs.1 large.img > /dev/null
+  advice calls
+  if [ "$advised" = 256 ]; then pass; else fail "not each of 256 MiB is begun with early: $advised"; fi
+  if [ "$unwritten" = 0 ]; then pass; else fail "$unwritten times the kernel is advised of what is not written yet"; fi
 else
   echo "skipped: system calls, since strace is missing or cannot trace here"
 fi

@@ -1,3 +1,7 @@
+mod Entries
+pub mod FirstOf
 mod Lists
+pub mod Numbered
 mod Slashes
 pub mod SlotNames
+pub mod Values

@@ -5,7 +5,7 @@ use Rattle.std.specs.Str.{bytes_eq}
 use Rattle.updater_text.specs.Flags.{flag_of}
 use Rattle.updater_text.specs.Numbers.{number_of}
 use Rattle.keyfile.specs.Groups.{Text}
-use Rattle.conf_forms.specs.Lists.{is_among, passing}
+use Rattle.conf_forms.specs.Lists.{is_among, keep_if}
 use Rattle.conf_forms.specs.declared.form.Form.{Form}
 use Rattle.conf_forms.specs.declared.form.Form.TheVariants as form
 
@@ -23,6 +23,10 @@ slot_types =
 -- not empty, and at most 1,024 bytes
 abbrev pub is_short : Text → Bool
 is_short text = nat_le 1 (length text) && nat_le (length text) 1024
+
+-- a text of at most 1,024 bytes, which may be empty
+abbrev pub is_text : Text → Bool
+is_text text = nat_le (length text) 1024
 
 -- no control character
 abbrev pub is_path_byte : ℕ → Bool
@@ -50,31 +54,32 @@ abbrev pub is_directory : Text → Bool
 is_directory text = nat_le (length text) 4096 && is_path (without_slash text)
 
 -- a byte of a bootname: from 33 to 126, and none of `=`, `,`, `;` and `"`
-abbrev pub is_name_byte : ℕ → Bool
-is_name_byte byte = (nat_le 33 byte && nat_le byte 126) && (not (byte == 61) && (not (byte == 44) && (not (byte == 59) && not (byte == 34))))
+abbrev pub is_bootname_byte : ℕ → Bool
+is_bootname_byte byte = (nat_le 33 byte && nat_le byte 126) && (not (byte == 61) && (not (byte == 44) && (not (byte == 59) && not (byte == 34))))
 
 -- a bootname
 abbrev pub is_bootname : Text → Bool
-is_bootname text = is_short text && list_all is_name_byte text
+is_bootname text = is_short text && list_all is_bootname_byte text
 
 -- a number from 1 to 9
 abbrev pub attempts_of : Text → Option ℕ
-attempts_of text = passing (λ n. nat_le 1 n && nat_le n 9) (number_of text)
+attempts_of text = keep_if (λ n. nat_le 1 n && nat_le n 9) (number_of text)
 
 -- the value has the form
-abbrev pub fits : Form → Text → Bool
-fits form.Compatible value = is_short value
-fits form.Loader value = is_among loaders value
-fits form.Path value = is_path value
-fits form.Directory value = is_directory value
-fits form.StatusFile value = is_path value
-fits form.Flag value = is_some (flag_of value)
-fits form.Activation value = is_some (flag_of value)
-fits form.Attempts value = is_some (attempts_of value)
-fits form.SlotType value = is_among slot_types value
-fits form.BootName value = is_bootname value
-fits form.Free value = true
-fits form.LeftOut value = true
+abbrev pub accepts : Form → Text → Bool
+accepts form.Compatible value = is_short value
+accepts form.Loader value = is_among loaders value
+accepts form.Path value = is_path value
+accepts form.Directory value = is_directory value
+accepts form.StatusFile value = is_path value
+accepts form.Flag value = is_some (flag_of value)
+accepts form.Activation value = is_some (flag_of value)
+accepts form.Attempts value = is_some (attempts_of value)
+accepts form.SlotType value = is_among slot_types value
+accepts form.BootName value = is_bootname value
+accepts form.Text value = is_text value
+accepts form.Free value = true
+accepts form.LeftOut value = true
 
 -- a flag that is false
 abbrev pub is_off : Option Bool → Bool

@@ -1,4 +1,8 @@
+pub mod Causes
+pub mod Classes
 pub mod Forms
-pub mod Keys
 pub mod Lists
+pub mod Searches
 pub mod SlotNames
+pub mod Tables
+pub mod Walks

@@ -14,14 +14,14 @@ first_of f [] = None
 first_of f (x ∷ xs) = or_else (f x) (first_of f xs)
 
 -- the value beside the first equal text
-abbrev pub beside : {A : Type 0} → List (List ℕ × A) → List ℕ → Option A
-beside rows text = option_map (λ r. r.1) (find (λ r. bytes_eq text r.0) rows)
+abbrev pub value_beside : {A : Type 0} → List (List ℕ × A) → List ℕ → Option A
+value_beside rows text = option_map (λ r. r.1) (find (λ r. bytes_eq text r.0) rows)
 
 -- the text is one of these words
 abbrev pub is_among : List (List ℕ) → List ℕ → Bool
 is_among words text = list_any (λ w. bytes_eq text w) words
 
 -- a value that passes a test
-abbrev pub passing : {A : Type 0} → (A → Bool) → Option A → Option A
-passing test None = None
-passing test (Some x) = if test x then Some x else None
+abbrev pub keep_if : {A : Type 0} → (A → Bool) → Option A → Option A
+keep_if test None = None
+keep_if test (Some x) = if test x then Some x else None

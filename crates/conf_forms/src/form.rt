@@ -27,6 +27,8 @@ pub enum Form {
     SlotType,
     /// A bootname.
     BootName,
+    /// A text of at most 1,024 bytes, which may be empty.
+    Text,
     /// Any text.
     Free,
     /// Any text; the key is left out.
@@ -35,8 +37,8 @@ pub enum Form {
 
 impl Form {
     /// Whether a value has the form.
-    pub fn fits(self, value: &str) -> bool
-        ensures { result ≡ spec.fits self value.now }
+    pub fn accepts(self, value: &str) -> bool
+        ensures { result ≡ spec.accepts self value.now }
     {
         match self {
             Form::Compatible => is_short(value),
@@ -47,6 +49,7 @@ impl Form {
             Form::Attempts => attempts_of(value).is_some(),
             Form::SlotType => is_slot_type(value),
             Form::BootName => is_bootname(value),
+            Form::Text => is_text(value),
             Form::Free | Form::LeftOut => true,
         }
     }
@@ -65,7 +68,7 @@ impl Form {
 }
 
 fn is_loader(value: &str) -> bool
-    ensures { result ≡ spec.fits Form.Loader value.now }
+    ensures { result ≡ spec.accepts Form.Loader value.now }
 {
     matches!(
         value,
@@ -74,7 +77,7 @@ fn is_loader(value: &str) -> bool
 }
 
 fn is_slot_type(value: &str) -> bool
-    ensures { result ≡ spec.fits Form.SlotType value.now }
+    ensures { result ≡ spec.accepts Form.SlotType value.now }
 {
     match value {
         "raw" | "ext4" | "vfat" => true,
@@ -88,6 +91,12 @@ fn is_short(text: &str) -> bool
     ensures { result ≡ spec.is_short text.now }
 {
     !text.is_empty() && text.len() <= 1024
+}
+
+fn is_text(text: &str) -> bool
+    ensures { result ≡ spec.is_text text.now }
+{
+    text.len() <= 1024
 }
 
 fn is_part(part: &[u8]) -> bool
@@ -137,8 +146,8 @@ fn is_directory(text: &str) -> bool
     text.len() <= 4096 && is_path(without_slash(text))
 }
 
-fn has_name_bytes(text: &[u8]) -> bool
-    ensures { result ≡ list_all spec.is_name_byte text.now }
+fn has_bootname_bytes(text: &[u8]) -> bool
+    ensures { result ≡ list_all spec.is_bootname_byte text.now }
 {
     text.iter().all(|byte| byte.is_ascii_graphic() && !matches!(*byte, b'=' | b',' | b';' | b'"'))
 }
@@ -146,7 +155,7 @@ fn has_name_bytes(text: &[u8]) -> bool
 fn is_bootname(text: &str) -> bool
     ensures { result ≡ spec.is_bootname text.now }
 {
-    is_short(text) && has_name_bytes(text.as_bytes())
+    is_short(text) && has_bootname_bytes(text.as_bytes())
 }
 
 /// The number from 1 to 9 that a text spells.

@@ -1,10 +1,17 @@
-//! The groups and keys of a configuration, and the forms of their values.
+//! The forms of the values in the updater's key files, and the search for groups and keys that a table
+//! of them does not know, leaves out, or whose values are bad.
 #![tactic(auto)]
 
+mod cause;
+mod class;
 mod form;
-mod keys;
+mod key_table;
 mod slot_name;
+mod walk;
 
+pub use cause::place_cause;
+pub use class::is_class;
 pub use form::{Form, attempts_of, without_slash};
-pub use keys::{GroupKind, form_of, kind_of};
-pub use slot_name::{SlotGroup, slot_group, slot_groups};
+pub use key_table::KeyTable;
+pub use slot_name::{SlotGroup, is_slot_name, slot_group, slot_groups};
+pub use walk::{KeyPlace, first_bad, first_left_out, first_unknown, missing_key};

@@ -1,8 +1,9 @@
 ghost use Rattle.std.specs.Prelude.{◌≡◌, ◌++◌, [], ◌∷◌, IfOk, OnOk, filter, map};
-ghost use Rattle.std.specs.List.{IsDistinct, list_all};
+ghost use Rattle.std.specs.List.{IsDistinct};
 ghost use Rattle.std.specs.Str.{bytes_eq};
 ghost use Rattle.conf_forms.specs.SlotNames as spec;
 
+use crate::class::is_class;
 use keyfile::KeyFile;
 use std::alloc::Global;
 use updater_text::{NoMemory, read_number};
@@ -20,16 +21,32 @@ pub struct SlotGroup<'a> {
     pub index: u32,
 }
 
+// The class and the index in a slot's name.
+fn split_name(name: &str) -> Option<(&str, u32)>
+    ensures { spec.IsSplitName name.entry.now result }
+{
+    let (class, index) = name.split_once('.')?;
+    if !is_class(class) {
+        return None;
+    }
+    let index = index_in(index)?;
+    Some((class, index))
+}
+
+/// Whether a text has the form of a slot's name, `<class>.<index>`: a class (`is_class`), and a decimal
+/// number below 2^32 without leading zeros. It takes no memory.
+pub fn is_slot_name(name: &str) -> bool
+    ensures { result ≡ spec.is_slot_name name.now }
+{
+    split_name(name).is_some()
+}
+
 /// The parts of a slot's group; None where the group has another name.
 pub fn slot_group(group: &str) -> Option<SlotGroup<'_>>
     ensures { spec.IsSlotGroup group.entry.now result }
 {
     let name = group.strip_prefix("slot.")?;
-    let (class, index) = name.split_once('.')?;
-    if !is_class(class.as_bytes()) {
-        return None;
-    }
-    let index = index_in(index)?;
+    let (class, index) = split_name(name)?;
     Some(SlotGroup {
         group,
         name,
@@ -60,18 +77,6 @@ fn push_slot<'a>(found: &mut Vec<SlotGroup<'a>>, group: &'a str) -> Result<(), N
         found.push(slot)?;
     }
     Ok(())
-}
-
-fn has_class_bytes(text: &[u8]) -> bool
-    ensures { result ≡ list_all spec.is_class_byte text.now }
-{
-    text.iter().all(|byte| byte.is_ascii_alphanumeric() || *byte == b'-' || *byte == b'_')
-}
-
-fn is_class(text: &[u8]) -> bool
-    ensures { result ≡ spec.is_class text.now }
-{
-    !text.is_empty() && text.len() <= 255 && has_class_bytes(text)
 }
 
 // The number that decimal digits without leading zeros spell.

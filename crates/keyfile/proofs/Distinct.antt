@@ -7,7 +7,7 @@ use Rattle.std.proofs.lemmas.Slice.Eq.{bytes_eq-Decides}
 use Rattle.std.specs.List.{list_any, position_or_len}
 use Rattle.std.specs.Str.{bytes_eq}
 use Rattle.keyfile.proofs.Bools.{and_true, both, not_true}
-use Rattle.keyfile.specs.Groups.{Text, Entry, Group, all_distinct, has_group, place_of, put_at, put_entry}
+use Rattle.keyfile.specs.Groups.{Text, Entry, Group, all_distinct, has_group, group_place, put_at, put_entry}
 use Rattle.keyfile.specs.Reading.{distinct}
 
 pub same_text : (x y : Text) → bytes_eq x y ≡ true → x ≡ y
@@ -176,6 +176,6 @@ pub has_group-table : (f : Text → List Entry) (xs : List Text) (n : Text) → 
 has_group-table f [] n = refl
 has_group-table f (x ∷ more) n = ap (λ (t : Bool). bytes_eq n x || t) (has_group-table f more n)
 
-pub place_of-table : (f : Text → List Entry) (xs : List Text) (n : Text) → place_of (table f xs) n ≡ position_or_len (bytes_eq n) xs
-place_of-table f [] n = refl
-place_of-table f (x ∷ more) n = ap (λ (i : ℕ). cond (not (bytes_eq n x)) (1 + i) 0) (place_of-table f more n)
+pub group_place-table : (f : Text → List Entry) (xs : List Text) (n : Text) → group_place (table f xs) n ≡ position_or_len (bytes_eq n) xs
+group_place-table f [] n = refl
+group_place-table f (x ∷ more) n = ap (λ (i : ℕ). cond (not (bytes_eq n x)) (1 + i) 0) (group_place-table f more n)

@@ -11,10 +11,10 @@ use Rattle.std.proofs.lemmas.List.{append-nil}
 use Rattle.std.proofs.lemmas.List.Folds.{list_all-append}
 use Rattle.std.proofs.lemmas.Str.{IsUtf8-append, IsUtf8-encode, IsUtf8-from_ascii, IsUtf8-nil, char_from_byte, encode_ascii}
 use Rattle.keyfile.proofs.Bools.{and_true, both}
-use Rattle.keyfile.proofs.Escaping.{unescaped-other}
+use Rattle.keyfile.proofs.Escaping.{unescape-other}
 use Rattle.keyfile.proofs.LineForms.{after_blanks-plain}
-use Rattle.keyfile.specs.Escapes.{escape, led_by, unescaped, value_text}
-use Rattle.keyfile.specs.Groups.{Text, is_line_byte, is_value, is_value_byte}
+use Rattle.keyfile.specs.Escapes.{escape, cons_both, unescape, value_text}
+use Rattle.keyfile.specs.Groups.{Text, is_line_byte, is_entry_value, is_value_byte}
 use Rattle.keyfile.specs.Lines.{after_blanks}
 
 pub same_number : (a b : ℕ) → (a == b) ≡ true → a ≡ b
@@ -23,37 +23,37 @@ same_number a b h = (Decides-eqb a b).0 h
 pub other_number : (a b : ℕ) → (a == b) ≡ false → a ≡ b → ⊥
 other_number a b h is = false≢true (sym h ∙ (Decides-eqb a b).1 is)
 
-led_is : (b : ℕ) (u : Option Text) → led_by (Some b) u ≡ option_map (λ text. b ∷ text) u
+led_is : (b : ℕ) (u : Option Text) → cons_both (Some b) u ≡ option_map (λ text. b ∷ text) u
 led_is b None = refl
 led_is b (Some t) = refl
 
 -- an escaped byte is read again
-unescaped-escape : (b : ℕ) (rest : Text) → unescaped (escape b ++ rest) ≡ option_map (λ text. b ∷ text) (unescaped rest)
-unescaped-escape b rest = go (b == 10) refl (b == 9) refl (b == 13) refl (b == 92) refl
+unescape-escape : (b : ℕ) (rest : Text) → unescape (escape b ++ rest) ≡ option_map (λ text. b ∷ text) (unescape rest)
+unescape-escape b rest = go (b == 10) refl (b == 9) refl (b == 13) refl (b == 92) refl
   where
-    by : (c : ℕ) → (b == c) ≡ true → led_by (Some c) (unescaped rest) ≡ option_map (λ text. b ∷ text) (unescaped rest)
-    by c h = led_is c (unescaped rest) ∙ ap (λ (n : ℕ). option_map (λ (text : Text). n ∷ text) (unescaped rest)) (sym (same_number b c h))
+    by : (c : ℕ) → (b == c) ≡ true → cons_both (Some c) (unescape rest) ≡ option_map (λ text. b ∷ text) (unescape rest)
+    by c h = led_is c (unescape rest) ∙ ap (λ (n : ℕ). option_map (λ (text : Text). n ∷ text) (unescape rest)) (sym (same_number b c h))
 
     go : (p : Bool) → (b == 10) ≡ p → (q : Bool) → (b == 9) ≡ q → (r : Bool) → (b == 13) ≡ r → (s : Bool) → (b == 92) ≡ s
-        → unescaped ((if p then 92 ∷ 110 ∷ [] else if q then 92 ∷ 116 ∷ [] else if r then 92 ∷ 114 ∷ [] else if s then 92 ∷ 92 ∷ [] else b ∷ []) ++ rest) ≡ option_map (λ text. b ∷ text) (unescaped rest)
+        → unescape ((if p then 92 ∷ 110 ∷ [] else if q then 92 ∷ 116 ∷ [] else if r then 92 ∷ 114 ∷ [] else if s then 92 ∷ 92 ∷ [] else b ∷ []) ++ rest) ≡ option_map (λ text. b ∷ text) (unescape rest)
     go true e q f r g s h = by 10 e
     go false e true f r g s h = by 9 f
     go false e false f true g s h = by 13 g
     go false e false f false g true h = by 92 h
-    go false e false f false g false h = unescaped-other b rest (other_number b 92 h)
+    go false e false f false g false h = unescape-other b rest (other_number b 92 h)
 
-unescaped-escapes : (value : Text) → unescaped (flat_map escape value) ≡ Some value
-unescaped-escapes [] = refl
-unescaped-escapes (b ∷ more) = unescaped-escape b (flat_map escape more) ∙ ap (option_map (λ (text : Text). b ∷ text)) (unescaped-escapes more)
+unescape-escapes : (value : Text) → unescape (flat_map escape value) ≡ Some value
+unescape-escapes [] = refl
+unescape-escapes (b ∷ more) = unescape-escape b (flat_map escape more) ∙ ap (option_map (λ (text : Text). b ∷ text)) (unescape-escapes more)
 
 -- a written value is read again
-pub unescaped-value_text : (value : Text) → unescaped (value_text value) ≡ Some value
-unescaped-value_text [] = refl
-unescaped-value_text (b ∷ more) = go (unescaped-value_text more) (b == 32) refl
+pub unescape-value_text : (value : Text) → unescape (value_text value) ≡ Some value
+unescape-value_text [] = refl
+unescape-value_text (b ∷ more) = go (unescape-value_text more) (b == 32) refl
   where
-    go : unescaped (value_text more) ≡ Some more → (p : Bool) → (b == 32) ≡ p → unescaped (if p then 92 ∷ 115 ∷ value_text more else escape b ++ flat_map escape more) ≡ Some (b ∷ more)
-    go deep true h = ap (led_by (Some 32)) deep ∙ ap (λ (n : ℕ). Some (n ∷ more)) (sym (same_number b 32 h))
-    go deep false h = unescaped-escape b (flat_map escape more) ∙ ap (option_map (λ (text : Text). b ∷ text)) (unescaped-escapes more)
+    go : unescape (value_text more) ≡ Some more → (p : Bool) → (b == 32) ≡ p → unescape (if p then 92 ∷ 115 ∷ value_text more else escape b ++ flat_map escape more) ≡ Some (b ∷ more)
+    go deep true h = ap (cons_both (Some 32)) deep ∙ ap (λ (n : ℕ). Some (n ∷ more)) (sym (same_number b 32 h))
+    go deep false h = unescape-escape b (flat_map escape more) ∙ ap (option_map (λ (text : Text). b ∷ text)) (unescape-escapes more)
 
 -- its bytes may stand in a line
 escape-bytes : (b : ℕ) → is_value_byte b ≡ true → list_all is_line_byte (escape b) ≡ true
@@ -71,12 +71,12 @@ escape-bytes b formed = go (b == 10) refl (b == 9) (b == 13) refl (b == 92) form
         alone true k = refl
         alone false k = k
 
-escapes-bytes : (value : Text) → is_value value ≡ true → list_all is_line_byte (flat_map escape value) ≡ true
+escapes-bytes : (value : Text) → is_entry_value value ≡ true → list_all is_line_byte (flat_map escape value) ≡ true
 escapes-bytes [] formed = refl
 escapes-bytes (b ∷ more) formed =
     list_all-append is_line_byte (escape b) (flat_map escape more) ∙ and_true _ _ (escape-bytes b (both _ _ formed).0) (escapes-bytes more (both _ _ formed).1)
 
-pub value_text-bytes : (value : Text) → is_value value ≡ true → list_all is_line_byte (value_text value) ≡ true
+pub value_text-bytes : (value : Text) → is_entry_value value ≡ true → list_all is_line_byte (value_text value) ≡ true
 value_text-bytes [] formed = refl
 value_text-bytes (b ∷ more) formed = go (value_text-bytes more (both _ _ formed).1) (b == 32)
   where

@@ -7,7 +7,7 @@ use Rattle.std.specs.List.{list_all}
 use Rattle.std.specs.Str.{bytes_eq}
 use Rattle.keyfile.proofs.Bools.{and_true, both, not_true}
 use Rattle.keyfile.proofs.Distinct.{bytes_eq-swap, is_in}
-use Rattle.keyfile.specs.Groups.{Text, Entry, Group, all_distinct, has_group, is_entry, is_group, is_key, is_key_file, is_name, is_value, may_be_put, opened, place_of, put_at, put_entry, put_in}
+use Rattle.keyfile.specs.Groups.{Text, Entry, Group, all_distinct, has_group, is_entry, is_group, is_key, is_key_file, is_name, is_entry_value, may_be_put, with_group, group_place, put_at, put_entry, put_in}
 
 pub has_group-names : (gs : List Group) (n : Text) → has_group gs n ≡ is_in (map (λ g. g.0) gs) n
 has_group-names [] n = refl
@@ -27,8 +27,8 @@ all_distinct-push (y ∷ more) x once new = go (λ h. all_distinct-push more x (
         and_true _ _ (ap not none) (deep h)
 
 -- a group more
-pub opened-kept : (gs : List Group) (n : Text) → is_key_file gs ≡ true → is_name n ≡ true → is_key_file (opened gs n) ≡ true
-opened-kept gs n kept name = go (has_group gs n) refl
+pub with_group-kept : (gs : List Group) (n : Text) → is_key_file gs ≡ true → is_name n ≡ true → is_key_file (with_group gs n) ≡ true
+with_group-kept gs n kept name = go (has_group gs n) refl
   where
     go : (b : Bool) → has_group gs n ≡ b → is_key_file (if b then gs else gs ++ (n, []) ∷ []) ≡ true
     go true h = kept
@@ -37,7 +37,7 @@ opened-kept gs n kept name = go (has_group gs n) refl
         (ap all_distinct (map-append (λ (g : Group). g.0) gs ((n, []) ∷ [])) ∙ all_distinct-push (map (λ g. g.0) gs) n (both _ _ kept).1 (sym (has_group-names gs n) ∙ h))
 
 -- an entry more
-put_entry-all : (es : List Entry) (k v : Text) → list_all is_entry es ≡ true → is_key k ≡ true → is_value v ≡ true → list_all is_entry (put_entry es k v) ≡ true
+put_entry-all : (es : List Entry) (k v : Text) → list_all is_entry es ≡ true → is_key k ≡ true → is_entry_value v ≡ true → list_all is_entry (put_entry es k v) ≡ true
 put_entry-all [] k v all key value = and_true _ _ (and_true _ _ key value) refl
 put_entry-all (e ∷ es) k v all key value = go (put_entry-all es k v (both _ _ all).1 key value) (bytes_eq k e.0)
   where
@@ -65,7 +65,7 @@ put_entry-distinct es k v once = ap all_distinct (put_entry-keys es k v) ∙ go 
     go true h = once
     go false h = all_distinct-push (map (λ e. e.0) es) k once h
 
-put_at-all : (gs : List Group) (at : ℕ) (k v : Text) → list_all is_group gs ≡ true → is_key k ≡ true → is_value v ≡ true → list_all is_group (put_at gs at k v) ≡ true
+put_at-all : (gs : List Group) (at : ℕ) (k v : Text) → list_all is_group gs ≡ true → is_key k ≡ true → is_entry_value v ≡ true → list_all is_group (put_at gs at k v) ≡ true
 put_at-all [] at k v all key value = refl
 put_at-all (g ∷ gs) zero k v all key value =
     let group = both _ _ (both _ _ all).0 in
@@ -78,7 +78,7 @@ put_at-names [] at k v = refl
 put_at-names (g ∷ gs) zero k v = refl
 put_at-names (g ∷ gs) (suc at) k v = ap (λ (t : List Text). g.0 ∷ t) (put_at-names gs at k v)
 
-pub put_at-kept : (gs : List Group) (at : ℕ) (k v : Text) → is_key_file gs ≡ true → is_key k ≡ true → is_value v ≡ true → is_key_file (put_at gs at k v) ≡ true
+pub put_at-kept : (gs : List Group) (at : ℕ) (k v : Text) → is_key_file gs ≡ true → is_key k ≡ true → is_entry_value v ≡ true → is_key_file (put_at gs at k v) ≡ true
 put_at-kept gs at k v kept key value = and_true _ _ (put_at-all gs at k v (both _ _ kept).0 key value) (ap all_distinct (put_at-names gs at k v) ∙ (both _ _ kept).1)
 
 -- a group's entry
@@ -86,4 +86,4 @@ pub put_in-kept : (gs : List Group) (g k v : Text) → is_key_file gs ≡ true �
 put_in-kept gs g k v kept fits =
     let name = both _ _ fits in
     let entry = both _ _ name.1 in
-    put_at-kept (opened gs g) (place_of gs g) k v (opened-kept gs g kept name.0) entry.0 entry.1
+    put_at-kept (with_group gs g) (group_place gs g) k v (with_group-kept gs g kept name.0) entry.0 entry.1

@@ -13,16 +13,16 @@ use Rattle.std.proofs.lemmas.List.Folds.{list_all-append}
 use Rattle.std.proofs.lemmas.List.Splits.{length-slice_split, slice_split_at}
 use Rattle.keyfile.proofs.Bools.{and_true, both, not_true}
 use Rattle.keyfile.proofs.Distinct.{equal_text, is_in, same_text}
-use Rattle.keyfile.proofs.Escaped.{other_number, unescaped-value_text, value_text-bytes, value_text-front}
+use Rattle.keyfile.proofs.Escaped.{other_number, unescape-value_text, value_text-bytes, value_text-front}
 use Rattle.keyfile.proofs.Keeping.{has_group-names}
-use Rattle.keyfile.proofs.LineForms.{after_blanks-plain, before_blanks-none, before_blanks-plain, bracketed-name, bracketed-none}
-use Rattle.keyfile.proofs.Maps.{opened-new, place_of-new, put_at-last}
+use Rattle.keyfile.proofs.LineForms.{after_blanks-plain, before_blanks-none, before_blanks-plain, bracket_name-name, bracket_name-none}
+use Rattle.keyfile.proofs.Maps.{with_group-new, group_place-new, put_at-last}
 use Rattle.keyfile.proofs.Orders.{after, after-good, after-read_lines_of}
 use Rattle.keyfile.proofs.Whole.{read_of-text}
 use Rattle.keyfile.specs.Canonical.{canonical, entry_text, group_text}
 use Rattle.keyfile.specs.Escapes.{value_text}
-use Rattle.keyfile.specs.Groups.{Text, Entry, Group, all_distinct, has_group, is_entry, is_group, is_key, is_key_byte, is_key_file, is_line_byte, is_name, is_name_byte, is_value, place_of, put_entry}
-use Rattle.keyfile.specs.Lines.{Line, nothing, heading, entry, after_blanks, before_blanks, bracketed, entry_from, entry_of, heading_of, inner, is_blank, is_silent, line_of, said_by, told_by}
+use Rattle.keyfile.specs.Groups.{Text, Entry, Group, all_distinct, has_group, is_entry, is_group, is_key, is_key_byte, is_key_file, is_line_byte, is_name, is_name_byte, is_entry_value, group_place, put_entry}
+use Rattle.keyfile.specs.Lines.{Line, nothing, heading, entry, after_blanks, before_blanks, bracket_name, entry_from, entry_of, heading_of, inner, is_blank, is_silent, line_of, unindented_line, heading_or_entry}
 use Rattle.keyfile.specs.Reading.{read_lines_of, read_of}
 use Rattle.keyfile.specs.Steps.{after_entry, after_line}
 use Rattle.keyfile.specs.declared.fault.KeyFault.{KeyFault}
@@ -160,12 +160,12 @@ not_silent b rest h = ap (λ (t : Bool). t || (b == 35)) (some_bytes (length res
 
 heading-said : (name : Text) → is_name name ≡ true → line_of (91 ∷ name ++ 93 ∷ []) ≡ heading name
 heading-said name formed =
-    ap said_by (after_blanks-plain 91 (name ++ 93 ∷ []) refl)
-    ∙ (ap (λ (t : Bool). if t then nothing else told_by (heading_of (91 ∷ name ++ 93 ∷ [])) (entry_of (91 ∷ name ++ 93 ∷ []))) (not_silent 91 (name ++ 93 ∷ []) refl)
-    ∙ ap (λ (o : Option Text). told_by o (entry_of (91 ∷ name ++ 93 ∷ []))) found)
+    ap unindented_line (after_blanks-plain 91 (name ++ 93 ∷ []) refl)
+    ∙ (ap (λ (t : Bool). if t then nothing else heading_or_entry (heading_of (91 ∷ name ++ 93 ∷ [])) (entry_of (91 ∷ name ++ 93 ∷ []))) (not_silent 91 (name ++ 93 ∷ []) refl)
+    ∙ ap (λ (o : Option Text). heading_or_entry o (entry_of (91 ∷ name ++ 93 ∷ []))) found)
   where
     found : heading_of (91 ∷ name ++ 93 ∷ []) ≡ Some name
-    found = ap bracketed (before_blanks-plain (91 ∷ name) 93 refl) ∙ (bracketed-name name ∙ ap (λ (b : Bool). if b then Some name else None) formed)
+    found = ap bracket_name (before_blanks-plain (91 ∷ name) 93 refl) ∙ (bracket_name-name name ∙ ap (λ (b : Bool). if b then Some name else None) formed)
 
 -- a key begins and ends with no blank, and with no sign of another kind of line
 key_byte-no : (b : ℕ) → is_key_byte b ≡ true → (is_blank b ≡ false) × ((b == 35) ≡ false) × ((b == 91) ≡ false) × ((b == 61) ≡ false)
@@ -200,13 +200,13 @@ take_first : (m b : ℕ) (rest x : Text) → take m (b ∷ rest) ≡ 91 ∷ x �
 take_first zero b rest x is = cc
 take_first (suc m) b rest x is = cc
 
-entry-said : (key value : Text) → is_key key ≡ true → is_value value ≡ true → line_of (key ++ 61 ∷ value_text value) ≡ entry key (value_text value)
+entry-said : (key value : Text) → is_key key ≡ true → is_entry_value value ≡ true → line_of (key ++ 61 ∷ value_text value) ≡ entry key (value_text value)
 entry-said [] value formed fits = absurd (false≢true formed)
 entry-said (b ∷ more) value formed fits =
-    ap said_by (after_blanks-plain b (more ++ 61 ∷ w) signs.0)
-    ∙ (ap (λ (t : Bool). if t then nothing else told_by (heading_of text) (entry_of text)) (not_silent b (more ++ 61 ∷ w) signs.1)
-    ∙ (ap (λ (o : Option Text). told_by o (entry_of text)) no_heading
-    ∙ ap (told_by None) found))
+    ap unindented_line (after_blanks-plain b (more ++ 61 ∷ w) signs.0)
+    ∙ (ap (λ (t : Bool). if t then nothing else heading_or_entry (heading_of text) (entry_of text)) (not_silent b (more ++ 61 ∷ w) signs.1)
+    ∙ (ap (λ (o : Option Text). heading_or_entry o (entry_of text)) no_heading
+    ∙ ap (heading_or_entry None) found))
   where
     w : Text
     w = value_text value
@@ -221,7 +221,7 @@ entry-said (b ∷ more) value formed fits =
     signs = key_byte-no b (both (is_key_byte b) (list_all is_key_byte more) bytes).0
 
     no_heading : heading_of text ≡ None
-    no_heading = bracketed-none (before_blanks text) (λ is. other_number b 91 signs.2 (take_first (length text - suffix_len is_blank text) b (more ++ 61 ∷ w) (inner (before_blanks text) ++ 93 ∷ []) is))
+    no_heading = bracket_name-none (before_blanks text) (λ is. other_number b 91 signs.2 (take_first (length text - suffix_len is_blank text) b (more ++ 61 ∷ w) (inner (before_blanks text) ++ 93 ∷ []) is))
 
     place : position (λ c. c == 61) text ≡ Some (length (b ∷ more))
     place =
@@ -333,7 +333,7 @@ entries-read gs n es (e ∷ rest) more all once then_ c =
 
     taken : after_line (gs ++ (n, es) ∷ []) (Some (length gs)) (c + 1) (entry e.0 (value_text e.1)) ≡ Ok (gs ++ (n, es ++ e ∷ []) ∷ [], Some (length gs))
     taken =
-        ap (after_entry (gs ++ (n, es) ∷ []) (length gs) (c + 1) e.0) (unescaped-value_text e.1)
+        ap (after_entry (gs ++ (n, es) ∷ []) (length gs) (c + 1) e.0) (unescape-value_text e.1)
         ∙ ap (λ (t : List Group). Ok (t, Some (length gs))) (put_at-last gs n es e.0 e.1 ∙ ap (λ (t : List Entry). gs ++ (n, t) ∷ []) (put_entry-push es e.0 e.1 new))
 
 -- a group
@@ -346,7 +346,7 @@ group-read gs g at more all new once then_ c =
     ∙ entries-read gs g.0 [] g.1 more all once then_ (c + 1)
   where
     taken : after_line gs at (c + 1) (heading g.0) ≡ Ok (gs ++ (g.0, []) ∷ [], Some (length gs))
-    taken = ap (λ (t : List Group). Ok (t, Some (place_of gs g.0))) (opened-new gs g.0 new) ∙ ap (λ (i : ℕ). Ok (gs ++ (g.0, []) ∷ [], Some i)) (place_of-new gs g.0 new)
+    taken = ap (λ (t : List Group). Ok (t, Some (group_place gs g.0))) (with_group-new gs g.0 new) ∙ ap (λ (i : ℕ). Ok (gs ++ (g.0, []) ∷ [], Some i)) (group_place-new gs g.0 new)
 
 -- the groups
 more-read : (done gs : List Group) (at : Option ℕ) → list_all is_group gs ≡ true → all_distinct (map (λ g. g.0) (done ++ gs)) ≡ true → (c : ℕ) → after done at c (more_said gs) ≡ Ok (done ++ gs)

@@ -7,7 +7,7 @@ use Rattle.std.proofs.lemmas.Slice.Eq.{bytes_eq-Decides}
 use Rattle.std.specs.List.{list_all, prefix_len, suffix_len}
 use Rattle.std.specs.Str.{bytes_eq}
 use Rattle.keyfile.specs.Groups.{Text, is_key, is_line_byte, is_name}
-use Rattle.keyfile.specs.Lines.{after_blanks, before_blanks, bracketed, entry_of, entry_from, heading_of, inner, is_blank, is_formed, is_silent, line_of, nothing, told_by}
+use Rattle.keyfile.specs.Lines.{after_blanks, before_blanks, bracket_name, entry_of, entry_from, heading_of, inner, is_blank, has_line_form, is_silent, line_of, nothing, heading_or_entry}
 
 pub false_when : {P : Type 0} (r : Bool) → Decides r P → ¬ P → r ≡ false
 false_when true d apart = absurd (apart (d.0 refl))
@@ -76,43 +76,43 @@ before_blanks-none (b ∷ more) space tab = go (is_blank last) refl
 -- ---- headings
 
 -- what brackets enclose
-pub inner_bracketed : (name : Text) → inner (91 ∷ name ++ 93 ∷ []) ≡ name
-inner_bracketed name =
+pub inner_brackets : (name : Text) → inner (91 ∷ name ++ 93 ∷ []) ≡ name
+inner_brackets name =
     let cut : length (91 ∷ name ++ 93 ∷ []) - 2 ≡ length name = omega (arith, length-append name (93 ∷ [])) in
     ap (λ (n : ℕ). take n (name ++ 93 ∷ [])) cut ∙ take-append_seam name (93 ∷ [])
 
-pub bracketed-name : (name : Text) → bracketed (91 ∷ name ++ 93 ∷ []) ≡ (if is_name name then Some name else None)
-bracketed-name name =
+pub bracket_name-name : (name : Text) → bracket_name (91 ∷ name ++ 93 ∷ []) ≡ (if is_name name then Some name else None)
+bracket_name-name name =
     let e = bytes_eq-Decides (91 ∷ name ++ 93 ∷ []) (91 ∷ name ++ 93 ∷ []) in
-    rw inner_bracketed (ap (λ (b : Bool). if b && is_name name then Some name else None) (e.1 refl))
+    rw inner_brackets (ap (λ (b : Bool). if b && is_name name then Some name else None) (e.1 refl))
 
-pub bracketed-is : (text rest name : Text) → text ≡ 91 ∷ rest → rest ≡ name ++ 93 ∷ [] → bracketed text ≡ (if is_name name then Some name else None)
-bracketed-is text rest name front back = ap bracketed (front ∙ ap (λ (t : Text). 91 ∷ t) back) ∙ bracketed-name name
+pub bracket_name-is : (text rest name : Text) → text ≡ 91 ∷ rest → rest ≡ name ++ 93 ∷ [] → bracket_name text ≡ (if is_name name then Some name else None)
+bracket_name-is text rest name front back = ap bracket_name (front ∙ ap (λ (t : Text). 91 ∷ t) back) ∙ bracket_name-name name
 
 -- what is not in brackets is no heading
-pub bracketed-none : (text : Text) → (text ≡ 91 ∷ inner text ++ 93 ∷ [] → ⊥) → bracketed text ≡ None
-bracketed-none text apart =
+pub bracket_name-none : (text : Text) → (text ≡ 91 ∷ inner text ++ 93 ∷ [] → ⊥) → bracket_name text ≡ None
+bracket_name-none text apart =
     ap (λ (b : Bool). if b && is_name (inner text) then Some (inner text) else None) (false_when _ (bytes_eq-Decides text (91 ∷ inner text ++ 93 ∷ [])) apart)
 
 -- ---- whole lines
 
 -- what a line says has its form
-entry_from-formed : (key value : Text) (b : Bool) → (is_key key && list_all is_line_byte value) ≡ b → is_formed (told_by None (if b then Some (key, value) else None)) ≡ true
+entry_from-formed : (key value : Text) (b : Bool) → (is_key key && list_all is_line_byte value) ≡ b → has_line_form (heading_or_entry None (if b then Some (key, value) else None)) ≡ true
 entry_from-formed key value true h = h
 entry_from-formed key value false h = refl
 
-entry_at-formed : (text : Text) (at : Option ℕ) → is_formed (told_by None (option_and_then (λ n. entry_from (before_blanks (take n text)) (after_blanks (drop (n + 1) text))) at)) ≡ true
+entry_at-formed : (text : Text) (at : Option ℕ) → has_line_form (heading_or_entry None (option_and_then (λ n. entry_from (before_blanks (take n text)) (after_blanks (drop (n + 1) text))) at)) ≡ true
 entry_at-formed text None = refl
 entry_at-formed text (Some n) = entry_from-formed (before_blanks (take n text)) (after_blanks (drop (n + 1) text)) _ refl
 
-told-formed : (name text : Text) (b c : Bool) → is_name name ≡ c → is_formed (told_by (if b && c then Some name else None) (entry_of text)) ≡ true
+told-formed : (name text : Text) (b c : Bool) → is_name name ≡ c → has_line_form (heading_or_entry (if b && c then Some name else None) (entry_of text)) ≡ true
 told-formed name text true true h = h
 told-formed name text true false h = entry_at-formed text (position (λ b. b == 61) text)
 told-formed name text false c h = entry_at-formed text (position (λ b. b == 61) text)
 
-said-formed : (text : Text) (b : Bool) → is_formed (if b then nothing else told_by (heading_of text) (entry_of text)) ≡ true
+said-formed : (text : Text) (b : Bool) → has_line_form (if b then nothing else heading_or_entry (heading_of text) (entry_of text)) ≡ true
 said-formed text true = refl
 said-formed text false = told-formed (inner (before_blanks text)) text (bytes_eq (before_blanks text) (91 ∷ inner (before_blanks text) ++ 93 ∷ [])) (is_name (inner (before_blanks text))) refl
 
-pub line_of-formed : (text : Text) → is_formed (line_of text) ≡ true
+pub line_of-formed : (text : Text) → has_line_form (line_of text) ≡ true
 line_of-formed text = said-formed (after_blanks text) (is_silent (after_blanks text))

@@ -2,7 +2,7 @@
 use Rattle.std.proofs.Common.{◌≡◌, ◌∙◌, ap, sym, refl, ℕ, zero, suc, Bool, true, false, ◌||◌, not, cond, List, [], ◌∷◌, ◌++◌, length, Some, None, if◌then◌else◌, option_map, option_and_then, find, is_some, slice_get, position, ◌+◌, arith}
 use Rattle.std.specs.String.{string_bytes, string_eq}
 use Rattle.std.specs.Str.{bytes_eq}
-use Rattle.std.specs.Map.{keys_of, lookup, set_value, values_of}
+use Rattle.std.specs.Map.{keys_of, lookup, values_of}
 use Rattle.std.specs.declared.alloc.Global.{Global}
 use Rattle.std.specs.declared.hash.FoldHasher.{FoldHasher}
 use Rattle.std.specs.declared.hash.BuildHasherDefault.{BuildHasherDefault}
@@ -12,7 +12,7 @@ use Rattle.std.specs.Prelude.{nat_lt}
 use Rattle.std.proofs.lemmas.Bool.{false≢true}
 use Rattle.std.proofs.lemmas.Option.{slice_get-map}
 use Rattle.indexmap.specs.IndexMap.{IndexMap, insert_entry, set_value_at}
-use Rattle.keyfile.specs.Groups.{Text, Entry, Group, entries_in, entry_at, get_entry, get_in, groups_in, has_group, put_at, put_entry, put_in, opened, place_of}
+use Rattle.keyfile.specs.Groups.{Text, Entry, Group, entries_in, entry_at, get_entry, get_in, groups_in, has_group, put_at, put_entry, put_in, with_group, group_place}
 
 abbrev pub Name : Type 0
 Name = String Global
@@ -62,25 +62,25 @@ entry_at-get (e ∷ es) zero at = slice_get-map (λ (p : Name × Name). (string_
 entry_at-get (e ∷ es) (suc g) at = entry_at-get es g at
 
 -- the place of a name
-pub place_of-keys : (es : List (Name × Inner)) (n : Text) → place_of (groups_in es) n ≡ position_or_len (is_named n) (keys_of es)
-place_of-keys [] n = refl
-place_of-keys (e ∷ es) n = ap (λ (i : ℕ). cond (not (is_named n e.0)) (1 + i) 0) (place_of-keys es n)
+pub group_place-keys : (es : List (Name × Inner)) (n : Text) → group_place (groups_in es) n ≡ position_or_len (is_named n) (keys_of es)
+group_place-keys [] n = refl
+group_place-keys (e ∷ es) n = ap (λ (i : ℕ). cond (not (is_named n e.0)) (1 + i) 0) (group_place-keys es n)
 
-pub position-found : (es : List (Name × Inner)) (n : Text) (at : ℕ) → Some at ≡ position (is_named n) (keys_of es) → at ≡ place_of (groups_in es) n
-position-found es n at found = go (nat_lt (position_or_len (is_named n) (keys_of es)) (length (keys_of es))) found ∙ sym (place_of-keys es n)
+pub position-found : (es : List (Name × Inner)) (n : Text) (at : ℕ) → Some at ≡ position (is_named n) (keys_of es) → at ≡ group_place (groups_in es) n
+position-found es n at found = go (nat_lt (position_or_len (is_named n) (keys_of es)) (length (keys_of es))) found ∙ sym (group_place-keys es n)
   where
     go : (b : Bool) → Some at ≡ cond b (Some (position_or_len (is_named n) (keys_of es))) None → at ≡ position_or_len (is_named n) (keys_of es)
     go true h = cc
     go false h = cc
 
-pub place_of-new : (gs : List Group) (n : Text) → has_group gs n ≡ false → place_of gs n ≡ length gs
-place_of-new [] n new = refl
-place_of-new (g ∷ gs) n new = go (place_of-new gs n) (bytes_eq n g.0) new
+pub group_place-new : (gs : List Group) (n : Text) → has_group gs n ≡ false → group_place gs n ≡ length gs
+group_place-new [] n new = refl
+group_place-new (g ∷ gs) n new = go (group_place-new gs n) (bytes_eq n g.0) new
   where
     next : 1 + length gs ≡ suc (length gs)
     next = omega arith
 
-    go : (has_group gs n ≡ false → place_of gs n ≡ length gs) → (b : Bool) → (b || has_group gs n) ≡ false → cond (not b) (1 + place_of gs n) 0 ≡ suc (length gs)
+    go : (has_group gs n ≡ false → group_place gs n ≡ length gs) → (b : Bool) → (b || has_group gs n) ≡ false → cond (not b) (1 + group_place gs n) 0 ≡ suc (length gs)
     go deep true h = absurd (false≢true (sym h))
     go deep false h = ap (λ (i : ℕ). 1 + i) (deep h) ∙ next
 
@@ -130,57 +130,22 @@ groups_in-set_same_at (e ∷ es) zero old new found same =
     ap (λ (t : List (Name × Name)). (string_bytes e.0, entries_in t) ∷ groups_in es) (same ∙ ap (λ (m : Inner). m.entries) is)
 groups_in-set_same_at (e ∷ es) (suc at) old new found same = ap (λ (t : List Group). (string_bytes e.0, entries_in e.1.entries) ∷ t) (groups_in-set_same_at es at old new found same)
 
--- a write to the group of a name
-pub groups_in-set_value : (es : List (Name × Inner)) (g k v : Text) (old new : Inner) → Some old ≡ lookup (is_named g) es
-    → entries_in new.entries ≡ put_entry (entries_in old.entries) k v
-    → groups_in (set_value (is_named g) es new) ≡ put_at (groups_in es) (place_of (groups_in es) g) k v
-groups_in-set_value [] g k v old new found put = cc
-groups_in-set_value (e ∷ es) g k v old new found put = go (λ h. groups_in-set_value es g k v old new h put) (is_named g e.0) found
-  where
-    next : 1 + place_of (groups_in es) g ≡ suc (place_of (groups_in es) g)
-    next = omega arith
-
-    go : (Some old ≡ lookup (is_named g) es → groups_in (set_value (is_named g) es new) ≡ put_at (groups_in es) (place_of (groups_in es) g) k v)
-        → (b : Bool) → Some old ≡ cond b (Some e.1) (lookup (is_named g) es)
-        → groups_in (cond b ((e.0, new) ∷ es) (e ∷ set_value (is_named g) es new))
-        ≡ put_at ((string_bytes e.0, entries_in e.1.entries) ∷ groups_in es) (cond (not b) (1 + place_of (groups_in es) g) 0) k v
-    go more true h =
-        let is : old ≡ e.1 = cc in
-        ap (λ (t : List Entry). (string_bytes e.0, t) ∷ groups_in es) (put ∙ ap (λ (m : Inner). put_entry (entries_in m.entries) k v) is)
-    go more false h =
-        ap (λ (t : List Group). (string_bytes e.0, entries_in e.1.entries) ∷ t) (more h)
-        ∙ sym (ap (λ (i : ℕ). put_at ((string_bytes e.0, entries_in e.1.entries) ∷ groups_in es) i k v) next)
-
--- what is written is what was there
-pub groups_in-set_same : (es : List (Name × Inner)) (g : Text) (old new : Inner) → Some old ≡ lookup (is_named g) es
-    → new.entries ≡ old.entries → groups_in (set_value (is_named g) es new) ≡ groups_in es
-groups_in-set_same [] g old new found same = refl
-groups_in-set_same (e ∷ es) g old new found same = go (λ h. groups_in-set_same es g old new h same) (is_named g e.0) found
-  where
-    go : (Some old ≡ lookup (is_named g) es → groups_in (set_value (is_named g) es new) ≡ groups_in es)
-        → (b : Bool) → Some old ≡ cond b (Some e.1) (lookup (is_named g) es)
-        → groups_in (cond b ((e.0, new) ∷ es) (e ∷ set_value (is_named g) es new)) ≡ (string_bytes e.0, entries_in e.1.entries) ∷ groups_in es
-    go more true h =
-        let is : old ≡ e.1 = cc in
-        ap (λ (t : List (Name × Name)). (string_bytes e.0, entries_in t) ∷ groups_in es) (same ∙ ap (λ (m : Inner). m.entries) is)
-    go more false h = ap (λ (t : List Group). (string_bytes e.0, entries_in e.1.entries) ∷ t) (more h)
-
 -- the groups with one of a name
-pub opened-there : (gs : List Group) (n : Text) → has_group gs n ≡ true → opened gs n ≡ gs
-opened-there gs n there = ap (λ (b : Bool). if b then gs else gs ++ (n, []) ∷ []) there
+pub with_group-there : (gs : List Group) (n : Text) → has_group gs n ≡ true → with_group gs n ≡ gs
+with_group-there gs n there = ap (λ (b : Bool). if b then gs else gs ++ (n, []) ∷ []) there
 
-pub opened-new : (gs : List Group) (n : Text) → has_group gs n ≡ false → opened gs n ≡ gs ++ (n, []) ∷ []
-opened-new gs n new = ap (λ (b : Bool). if b then gs else gs ++ (n, []) ∷ []) new
+pub with_group-new : (gs : List Group) (n : Text) → has_group gs n ≡ false → with_group gs n ≡ gs ++ (n, []) ∷ []
+with_group-new gs n new = ap (λ (b : Bool). if b then gs else gs ++ (n, []) ∷ []) new
 
 -- the last group takes an entry
 pub put_at-last : (gs : List Group) (n : Text) (es : List Entry) (k v : Text) → put_at (gs ++ (n, es) ∷ []) (length gs) k v ≡ gs ++ (n, put_entry es k v) ∷ []
 put_at-last [] n es k v = refl
 put_at-last (g ∷ gs) n es k v = ap (λ (t : List Group). g ∷ t) (put_at-last gs n es k v)
 
-pub put_in-there : (gs : List Group) (n k v : Text) → has_group gs n ≡ true → put_in gs n k v ≡ put_at gs (place_of gs n) k v
-put_in-there gs n k v there = ap (λ (t : List Group). put_at t (place_of gs n) k v) (opened-there gs n there)
+pub put_in-there : (gs : List Group) (n k v : Text) → has_group gs n ≡ true → put_in gs n k v ≡ put_at gs (group_place gs n) k v
+put_in-there gs n k v there = ap (λ (t : List Group). put_at t (group_place gs n) k v) (with_group-there gs n there)
 
 pub put_in-new : (gs : List Group) (n k v : Text) → has_group gs n ≡ false → put_in gs n k v ≡ gs ++ (n, (k, v) ∷ []) ∷ []
 put_in-new gs n k v new =
-    ap (λ (t : List Group). put_at t (place_of gs n) k v) (opened-new gs n new)
-    ∙ (ap (λ (i : ℕ). put_at (gs ++ (n, []) ∷ []) i k v) (place_of-new gs n new) ∙ put_at-last gs n [] k v)
+    ap (λ (t : List Group). put_at t (group_place gs n) k v) (with_group-new gs n new)
+    ∙ (ap (λ (i : ℕ). put_at (gs ++ (n, []) ∷ []) i k v) (group_place-new gs n new) ∙ put_at-last gs n [] k v)

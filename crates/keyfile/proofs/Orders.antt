@@ -6,25 +6,25 @@ use Rattle.std.proofs.lemmas.List.{append-nil, drop_all, map-append}
 use Rattle.std.specs.List.{cons_option, drop-map, enumerate_from, position_or_len}
 use Rattle.std.specs.Str.{bytes_eq}
 use Rattle.keyfile.proofs.Distinct.{equal_text, is_in}
-use Rattle.keyfile.proofs.Merging.{grouped-entry, grouped-heading, place_of-grouped, position-placed}
-use Rattle.keyfile.specs.Escapes.{unescaped}
-use Rattle.keyfile.specs.Groups.{Text, Group, place_of}
+use Rattle.keyfile.proofs.Merging.{groups_from-entry, groups_from-heading, group_place-groups_from, position-in_groups}
+use Rattle.keyfile.specs.Escapes.{unescape}
+use Rattle.keyfile.specs.Groups.{Text, Group, group_place}
 use Rattle.keyfile.specs.Lines.{Line, nothing, heading, entry, bad, line_of}
 use Rattle.updater_text.specs.Answers.{Gives}
-use Rattle.keyfile.specs.Reading.{Placed, distinct, fault_of, group_below, grouped, groups_of, placed, placed_entry, read_lines_of, unless_faulty}
-use Rattle.keyfile.specs.Steps.{State, Took, after_entry, after_line}
+use Rattle.keyfile.specs.Reading.{InGroup, distinct, fault_of, group_below, groups_from, groups_of, in_groups, entry_in_group, read_lines_of, unless_faulty}
+use Rattle.keyfile.specs.Steps.{State, GivesState, after_entry, after_line}
 use Rattle.updater_text.specs.declared.stops.Lack.{Lack}
 use Rattle.updater_text.specs.declared.stops.Lack.TheVariants as lack
 use Rattle.keyfile.specs.declared.fault.KeyFault.{KeyFault}
 use Rattle.keyfile.specs.declared.fault.KeyFault.TheVariants as fault
 
 -- the place of a group among all
-abbrev pub place_in : List Placed → Option Text → Option ℕ
+abbrev pub place_in : List InGroup → Option Text → Option ℕ
 place_in all group = option_map (λ n. position_or_len (bytes_eq n) (distinct (map (λ p. p.0) all))) group
 
--- the groups, and the place of the last one opened
-abbrev pub state : List Placed → Option Text → State
-state all group = (grouped all, place_in all group)
+-- the groups, and the place of the one that the last heading names
+abbrev pub state : List InGroup → Option Text → State
+state all group = (groups_from all, place_in all group)
 
 -- a fault, or else the state
 abbrev pub judged : Option KeyFault → State → Result State KeyFault
@@ -32,22 +32,22 @@ judged None new = Ok new
 judged (Some refusal) new = Err refusal
 
 -- one line more, of a state that lines made
-step_entry : (all : List Placed) (n key : Text) (number : ℕ) → is_in (map (λ p. p.0) all) n ≡ true → (value : Option Text)
-    → after_entry (grouped all) (position_or_len (bytes_eq n) (distinct (map (λ p. p.0) all))) number key value
+step_entry : (all : List InGroup) (n key : Text) (number : ℕ) → is_in (map (λ p. p.0) all) n ≡ true → (value : Option Text)
+    → after_entry (groups_from all) (position_or_len (bytes_eq n) (distinct (map (λ p. p.0) all))) number key value
     ≡ judged (if is_some value then None else Some (fault.BadEscape number)) (state (all ++ (n, Some (key, unwrap_or value [])) ∷ []) (Some n))
 step_entry all n key number there None = refl
 step_entry all n key number there (Some value) =
-    ap (λ (gs : List Group). Ok (gs, Some (position_or_len (bytes_eq n) (distinct (map (λ p. p.0) all))))) (sym (grouped-entry all n key value there))
-    ∙ ap (λ (i : ℕ). Ok (grouped (all ++ (n, Some (key, value)) ∷ []), Some i)) (sym (position-placed all n (Some (key, value))))
+    ap (λ (gs : List Group). Ok (gs, Some (position_or_len (bytes_eq n) (distinct (map (λ p. p.0) all))))) (sym (groups_from-entry all n key value there))
+    ∙ ap (λ (i : ℕ). Ok (groups_from (all ++ (n, Some (key, value)) ∷ []), Some i)) (sym (position-in_groups all n (Some (key, value))))
 
-step : (all : List Placed) (group : Option Text) (number : ℕ) (line : Line) → ((n : Text) → group ≡ Some n → is_in (map (λ p. p.0) all) n ≡ true)
-    → after_line (grouped all) (place_in all group) number line ≡ judged (fault_of group number line) (state (all ++ placed group (line ∷ [])) (group_below group (line ∷ [])))
-step all group number nothing there = ap (λ (a : List Placed). Ok (state a group)) (sym (append-nil all))
+step : (all : List InGroup) (group : Option Text) (number : ℕ) (line : Line) → ((n : Text) → group ≡ Some n → is_in (map (λ p. p.0) all) n ≡ true)
+    → after_line (groups_from all) (place_in all group) number line ≡ judged (fault_of group number line) (state (all ++ in_groups group (line ∷ [])) (group_below group (line ∷ [])))
+step all group number nothing there = ap (λ (a : List InGroup). Ok (state a group)) (sym (append-nil all))
 step all group number (heading n) there =
-    ap (λ (gs : List Group). Ok (gs, Some (place_of (grouped all) n))) (sym (grouped-heading all n))
-    ∙ ap (λ (i : ℕ). Ok (grouped (all ++ (n, None) ∷ []), Some i)) (place_of-grouped all n ∙ sym (position-placed all n None))
+    ap (λ (gs : List Group). Ok (gs, Some (group_place (groups_from all) n))) (sym (groups_from-heading all n))
+    ∙ ap (λ (i : ℕ). Ok (groups_from (all ++ (n, None) ∷ []), Some i)) (group_place-groups_from all n ∙ sym (position-in_groups all n None))
 step all None number (entry key value) there = refl
-step all (Some n) number (entry key value) there = step_entry all n key number (there n refl) (unescaped value)
+step all (Some n) number (entry key value) there = step_entry all n key number (there n refl) (unescape value)
 step all group number bad there = refl
 
 -- lines and one more
@@ -58,16 +58,16 @@ group_below-more above (heading name ∷ more) line = group_below-more (Some nam
 group_below-more above (entry key value ∷ more) line = group_below-more above more line
 group_below-more above (bad ∷ more) line = group_below-more above more line
 
-placed-more : (above : Option Text) (done : List Line) (line : Line) → placed above (done ++ line ∷ []) ≡ placed above done ++ placed (group_below above done) (line ∷ [])
-placed-more above [] line = refl
-placed-more above (nothing ∷ more) line = placed-more above more line
-placed-more above (heading name ∷ more) line = ap (λ (t : List Placed). (name, None) ∷ t) (placed-more (Some name) more line)
-placed-more above (entry key value ∷ more) line =
-    ap (λ (t : List Placed). placed_entry above key value ++ t) (placed-more above more line)
-    ∙ sym (append_assoc (placed_entry above key value) (placed above more) (placed (group_below above more) (line ∷ [])))
-placed-more above (bad ∷ more) line = placed-more above more line
+in_groups-more : (above : Option Text) (done : List Line) (line : Line) → in_groups above (done ++ line ∷ []) ≡ in_groups above done ++ in_groups (group_below above done) (line ∷ [])
+in_groups-more above [] line = refl
+in_groups-more above (nothing ∷ more) line = in_groups-more above more line
+in_groups-more above (heading name ∷ more) line = ap (λ (t : List InGroup). (name, None) ∷ t) (in_groups-more (Some name) more line)
+in_groups-more above (entry key value ∷ more) line =
+    ap (λ (t : List InGroup). entry_in_group above key value ++ t) (in_groups-more above more line)
+    ∙ sym (append_assoc (entry_in_group above key value) (in_groups above more) (in_groups (group_below above more) (line ∷ [])))
+in_groups-more above (bad ∷ more) line = in_groups-more above more line
 
--- the group that a line stands in was opened
+-- the group that a line stands in was begun
 is_in-append : (xs ys : List Text) (x : Text) → is_in ys x ≡ true → is_in (xs ++ ys) x ≡ true
 is_in-append [] ys x h = h
 is_in-append (y ∷ more) ys x h = go (is_in-append more ys x h) (bytes_eq x y)
@@ -76,13 +76,13 @@ is_in-append (y ∷ more) ys x h = go (is_in-append more ys x h) (bytes_eq x y)
     go deep true = refl
     go deep false = deep
 
-group_below-there : (above : Option Text) (done : List Line) (n : Text) → group_below above done ≡ Some n → (above ≡ Some n) ⊎ (is_in (map (λ p. p.0) (placed above done)) n ≡ true)
+group_below-there : (above : Option Text) (done : List Line) (n : Text) → group_below above done ≡ Some n → (above ≡ Some n) ⊎ (is_in (map (λ p. p.0) (in_groups above done)) n ≡ true)
 group_below-there above [] n h = inl h
 group_below-there above (nothing ∷ more) n h = group_below-there above more n h
 group_below-there above (heading name ∷ more) n h =
     elim (group_below-there (Some name) more n h) [
-      | inl same ↦ inr (ap (λ (b : Bool). b || is_in (map (λ p. p.0) (placed (Some name) more)) n) (equal_text n name (some_is name n same)))
-      | inr there ↦ inr (is_in-append (name ∷ []) (map (λ p. p.0) (placed (Some name) more)) n there)
+      | inl same ↦ inr (ap (λ (b : Bool). b || is_in (map (λ p. p.0) (in_groups (Some name) more)) n) (equal_text n name (some_is name n same)))
+      | inr there ↦ inr (is_in-append (name ∷ []) (map (λ p. p.0) (in_groups (Some name) more)) n there)
     ]
   where
     some_is : (a b : Text) → ◌≡◌ {A = Option Text} (Some a) (Some b) → b ≡ a
@@ -90,29 +90,29 @@ group_below-there above (heading name ∷ more) n h =
 group_below-there above (entry key value ∷ more) n h =
     elim (group_below-there above more n h) [
       | inl same ↦ inl same
-      | inr there ↦ inr (ap (λ (t : List Text). is_in t n) (map-append (λ (p : Placed). p.0) (placed_entry above key value) (placed above more))
-          ∙ is_in-append (map (λ p. p.0) (placed_entry above key value)) (map (λ p. p.0) (placed above more)) n there)
+      | inr there ↦ inr (ap (λ (t : List Text). is_in t n) (map-append (λ (p : InGroup). p.0) (entry_in_group above key value) (in_groups above more))
+          ∙ is_in-append (map (λ p. p.0) (entry_in_group above key value)) (map (λ p. p.0) (in_groups above more)) n there)
     ]
 group_below-there above (bad ∷ more) n h = group_below-there above more n h
 
 none_is_none : (n : Text) → ◌≡◌ {A = Option Text} None (Some n) → ⊥
 none_is_none n e = cc
 
-opened_there : (done : List Line) (n : Text) → group_below None done ≡ Some n → is_in (map (λ p. p.0) (placed None done)) n ≡ true
-opened_there done n h = elim (group_below-there None done n h) [ inl same ↦ absurd (none_is_none n same) | inr there ↦ there ]
+with_group_there : (done : List Line) (n : Text) → group_below None done ≡ Some n → is_in (map (λ p. p.0) (in_groups None done)) n ≡ true
+with_group_there done n h = elim (group_below-there None done n h) [ inl same ↦ absurd (none_is_none n same) | inr there ↦ there ]
 
 -- the state that lines make
 abbrev pub state_of : List Line → State
-state_of done = state (placed None done) (group_below None done)
+state_of done = state (in_groups None done) (group_below None done)
 
-state_of-more : (done : List Line) (line : Line) → state_of (done ++ line ∷ []) ≡ state (placed None done ++ placed (group_below None done) (line ∷ [])) (group_below (group_below None done) (line ∷ []))
+state_of-more : (done : List Line) (line : Line) → state_of (done ++ line ∷ []) ≡ state (in_groups None done ++ in_groups (group_below None done) (line ∷ [])) (group_below (group_below None done) (line ∷ []))
 state_of-more done line =
-    ap (λ (a : List Placed). state a (group_below None (done ++ line ∷ []))) (placed-more None done line)
-    ∙ ap (state (placed None done ++ placed (group_below None done) (line ∷ []))) (group_below-more None done line)
+    ap (λ (a : List InGroup). state a (group_below None (done ++ line ∷ []))) (in_groups-more None done line)
+    ∙ ap (state (in_groups None done ++ in_groups (group_below None done) (line ∷ []))) (group_below-more None done line)
 
 step_of : (done : List Line) (number : ℕ) (line : Line) → after_line (groups_of done) (state_of done).1 number line ≡ judged (fault_of (group_below None done) number line) (state_of (done ++ line ∷ []))
 step_of done number line =
-    step (placed None done) (group_below None done) number line (opened_there done)
+    step (in_groups None done) (group_below None done) number line (with_group_there done)
     ∙ ap (judged (fault_of (group_below None done) number line)) (sym (state_of-more done line))
 
 -- what is left to read makes of the state so far, the lines so far being so many
@@ -173,6 +173,6 @@ pub drop_lines : (all : List Text) (count : ℕ) → count ≡ length all → dr
 drop_lines all count whole = drop-map line_of count all ∙ ap (map line_of) (drop_all count all (omega arith))
 
 -- a fault of a line is the answer of the whole
-pub gives_fault : (answer : Lack KeyFault) (new : List Group) (taken : Result State KeyFault) (wanted : Result (List Group) KeyFault) → Took (Err answer) new taken → ((why : KeyFault) → taken ≡ Err why → wanted ≡ Err why) → Gives (Err answer) wanted
+pub gives_fault : (answer : Lack KeyFault) (new : List Group) (taken : Result State KeyFault) (wanted : Result (List Group) KeyFault) → GivesState (Err answer) new taken → ((why : KeyFault) → taken ≡ Err why → wanted ≡ Err why) → Gives (Err answer) wanted
 gives_fault (lack.Refused why) new taken wanted took faulty = faulty why took
 gives_fault lack.NoMemory new taken wanted took faulty = tt

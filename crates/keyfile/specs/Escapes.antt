@@ -4,8 +4,8 @@ use Rattle.std.specs.List.{flat_map}
 use Rattle.keyfile.specs.Groups.{Text}
 
 -- the byte that a letter behind a backslash stands for: `s` a space, `n` a line feed, `t` a tab, `r` a carriage return, and a backslash itself
-abbrev pub escape_of : ℕ → Option ℕ
-escape_of letter =
+abbrev pub letter_byte : ℕ → Option ℕ
+letter_byte letter =
     if letter == 115 then Some 32
     else if letter == 110 then Some 10
     else if letter == 116 then Some 9
@@ -16,19 +16,19 @@ escape_of letter =
 -- the same for the letter at the front of a text, with what follows it
 abbrev pub escape_at : Text → Option (ℕ × Text)
 escape_at [] = None
-escape_at (letter ∷ more) = option_map (λ byte. (byte, more)) (escape_of letter)
+escape_at (letter ∷ more) = option_map (λ byte. (byte, more)) (letter_byte letter)
 
 -- a byte in front of a value, where both are there
-abbrev pub led_by : Option ℕ → Option Text → Option Text
-led_by (Some byte) (Some text) = Some (byte ∷ text)
-led_by (Some byte) None = None
-led_by None text = None
+abbrev pub cons_both : Option ℕ → Option Text → Option Text
+cons_both (Some byte) (Some text) = Some (byte ∷ text)
+cons_both (Some byte) None = None
+cons_both None text = None
 
 -- the value that is written so, where each backslash stands before one of the letters
-abbrev pub unescaped : Text → Option Text
-unescaped [] = Some []
-unescaped (b ∷ []) = if b == 92 then None else Some (b ∷ [])
-unescaped (b ∷ c ∷ more) = if b == 92 then led_by (escape_of c) (unescaped more) else option_map (λ text. b ∷ text) (unescaped (c ∷ more))
+abbrev pub unescape : Text → Option Text
+unescape [] = Some []
+unescape (b ∷ []) = if b == 92 then None else Some (b ∷ [])
+unescape (b ∷ c ∷ more) = if b == 92 then cons_both (letter_byte c) (unescape more) else option_map (λ text. b ∷ text) (unescape (c ∷ more))
 
 -- a byte behind the leading run of spaces, as it is written
 abbrev pub escape : ℕ → Text

@@ -47,8 +47,8 @@ abbrev pub key_count : List Group → ℕ → ℕ
 key_count groups group = option_map_or (λ g. length g.1) (slice_get groups group) 0
 
 -- the place of the group of this name, or else the number of groups
-abbrev pub place_of : List Group → Text → ℕ
-place_of groups name = position_or_len (λ g. bytes_eq name g.0) groups
+abbrev pub group_place : List Group → Text → ℕ
+group_place groups name = position_or_len (λ g. bytes_eq name g.0) groups
 
 -- some group has this name
 abbrev pub has_group : List Group → Text → Bool
@@ -68,12 +68,12 @@ put_at (g ∷ more) zero key value = (g.0, put_entry g.1 key value) ∷ more
 put_at (g ∷ more) (suc at) key value = g ∷ put_at more at key value
 
 -- with a group of this name, which goes last where it is new
-abbrev pub opened : List Group → Text → List Group
-opened groups name = if has_group groups name then groups else groups ++ (name, []) ∷ []
+abbrev pub with_group : List Group → Text → List Group
+with_group groups name = if has_group groups name then groups else groups ++ (name, []) ∷ []
 
 -- the group of this name takes an entry, and goes last where it is new
 abbrev pub put_in : List Group → Text → Text → Text → List Group
-put_in groups group key value = put_at (opened groups group) (place_of groups group) key value
+put_in groups group key value = put_at (with_group groups group) (group_place groups group) key value
 
 -- ---- forms
 
@@ -104,8 +104,8 @@ abbrev pub is_key : Text → Bool
 is_key key = not (length key == 0) && list_all is_key_byte key
 
 -- a value
-abbrev pub is_value : Text → Bool
-is_value value = list_all is_value_byte value
+abbrev pub is_entry_value : Text → Bool
+is_entry_value value = list_all is_value_byte value
 
 -- no text stands twice
 abbrev pub all_distinct : List Text → Bool
@@ -114,7 +114,7 @@ all_distinct (x ∷ more) = not (list_any (bytes_eq x) more) && all_distinct mor
 
 -- a key and a value
 abbrev pub is_entry : Entry → Bool
-is_entry entry = is_key entry.0 && is_value entry.1
+is_entry entry = is_key entry.0 && is_entry_value entry.1
 
 -- a name, and entries whose keys differ
 abbrev pub is_group : Group → Bool
@@ -126,4 +126,4 @@ is_key_file groups = list_all is_group groups && all_distinct (map (λ g. g.0) g
 
 -- a group, a key and a value that may be put
 abbrev pub may_be_put : Text → Text → Text → Bool
-may_be_put group key value = is_name group && (is_key key && is_value value)
+may_be_put group key value = is_name group && (is_key key && is_entry_value value)

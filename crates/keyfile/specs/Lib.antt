@@ -1,4 +1,5 @@
 pub mod Canonical
+pub mod Causes
 pub mod Escapes
 pub mod Groups
 pub mod Items

@@ -30,12 +30,12 @@ abbrev pub inner : Text → Text
 inner text = take (length text - 2) (drop 1 text)
 
 -- the name of `[name]`
-abbrev pub bracketed : Text → Option Text
-bracketed text = if bytes_eq text (91 ∷ inner text ++ 93 ∷ []) && is_name (inner text) then Some (inner text) else None
+abbrev pub bracket_name : Text → Option Text
+bracket_name text = if bytes_eq text (91 ∷ inner text ++ 93 ∷ []) && is_name (inner text) then Some (inner text) else None
 
 -- the name of `[name]`, followed by blanks alone
 abbrev pub heading_of : Text → Option Text
-heading_of text = bracketed (before_blanks text)
+heading_of text = bracket_name (before_blanks text)
 
 -- a key and a written value, where they have their forms
 abbrev pub entry_from : Text → Text → Option Entry
@@ -50,29 +50,29 @@ abbrev pub is_silent : Text → Bool
 is_silent text = (length text == 0) || (slice_index text 0 == 35)
 
 -- a heading where it is one, else an entry where it is one
-abbrev pub told_by : Option Text → Option Entry → Line
-told_by (Some name) given = heading name
-told_by None (Some given) = entry given.0 given.1
-told_by None None = bad
+abbrev pub heading_or_entry : Option Text → Option Entry → Line
+heading_or_entry (Some name) given = heading name
+heading_or_entry None (Some given) = entry given.0 given.1
+heading_or_entry None None = bad
 
 -- what a line says that begins with no blank
-abbrev pub said_by : Text → Line
-said_by text = if is_silent text then nothing else told_by (heading_of text) (entry_of text)
+abbrev pub unindented_line : Text → Line
+unindented_line text = if is_silent text then nothing else heading_or_entry (heading_of text) (entry_of text)
 
 -- what a line says
 abbrev pub line_of : Text → Line
-line_of text = said_by (after_blanks text)
+line_of text = unindented_line (after_blanks text)
 
 -- what the code's line stands for
-abbrev pub shown : ReadLine → Line
-shown read.Nothing = nothing
-shown (read.Heading name) = heading name.now
-shown (read.Entry key value) = entry key.now value.now
-shown read.Bad = bad
+abbrev pub line_meaning : ReadLine → Line
+line_meaning read.Nothing = nothing
+line_meaning (read.Heading name) = heading name.now
+line_meaning (read.Entry key value) = entry key.now value.now
+line_meaning read.Bad = bad
 
 -- a heading with a name, an entry with a key and bytes that may stand in a line, or another line
-abbrev pub is_formed : Line → Bool
-is_formed nothing = true
-is_formed (heading name) = is_name name
-is_formed (entry key value) = is_key key && list_all is_line_byte value
-is_formed bad = true
+abbrev pub has_line_form : Line → Bool
+has_line_form nothing = true
+has_line_form (heading name) = is_name name
+has_line_form (entry key value) = is_key key && list_all is_line_byte value
+has_line_form bad = true

@@ -1,5 +1,5 @@
 ghost use Rattle.std.specs.Prelude.{◌≡◌, IfOk, option_map, string_bytes};
-ghost use Rattle.keyfile.specs.Escapes.{escape_at, unescaped};
+ghost use Rattle.keyfile.specs.Escapes.{escape_at, unescape};
 
 use std::alloc::Global;
 use updater_text::NoMemory;
@@ -21,7 +21,7 @@ fn escape_at(rest: &str) -> Option<(char, &str)>
 
 /// The value that is written so; None where a backslash stands before no such letter.
 pub fn unescape(alloc: Global, written: &str) -> Result<Option<String>, NoMemory>
-    ensures { IfOk result (λ value. option_map string_bytes value ≡ unescaped written.now) }
+    ensures { IfOk result (λ value. option_map string_bytes value ≡ unescape written.now) }
 {
     let mut value = String::new(alloc);
     let mut left = written;

@@ -1,6 +1,6 @@
 ghost use Rattle.std.specs.Prelude.{◌≡◌};
 ghost use Rattle.std.specs.List.{list_all};
-ghost use Rattle.keyfile.specs.Groups.{is_key, is_key_byte, is_line_byte, is_name, is_name_byte, is_value, is_value_byte, may_be_put};
+ghost use Rattle.keyfile.specs.Groups.{is_key, is_key_byte, is_line_byte, is_name, is_name_byte, is_entry_value, is_value_byte, may_be_put};
 
 // Whether a byte may stand in a line: it is not below 32, or a tab.
 fn is_line_byte(byte: u8) -> bool
@@ -66,8 +66,8 @@ pub fn is_key(key: &str) -> bool
 }
 
 // Whether a text may be a value.
-fn is_value(value: &str) -> bool
-    ensures { result ≡ is_value value.now }
+fn is_entry_value(value: &str) -> bool
+    ensures { result ≡ is_entry_value value.now }
 {
     value.as_bytes().iter().all(|byte| is_value_byte(*byte))
 }
@@ -78,5 +78,5 @@ fn is_value(value: &str) -> bool
 pub fn fits(group: &str, key: &str, value: &str) -> bool
     ensures { result ≡ may_be_put group.now key.now value.now }
 {
-    is_name(group) && is_key(key) && is_value(value)
+    is_name(group) && is_key(key) && is_entry_value(value)
 }

@@ -1,13 +1,13 @@
-ghost use Rattle.std.specs.Prelude.{◌≡◌, ◌≤◌, [], IfOk, IsTrue, OnErr, OnOk, length, map, option_copied, option_map, slice_get, string_bytes};
+ghost use Rattle.std.specs.Prelude.{◌≡◌, ◌≤◌, [], ◌∷◌, false, IfOk, IsTrue, OnErr, OnOk, length, map, option_copied, option_map, slice_get, string_bytes};
 ghost use Rattle.std.specs.List.{IsDistinct};
 ghost use Rattle.std.specs.Str.{bytes_eq};
 ghost use Rattle.keyfile.specs.Canonical.{canonical};
-ghost use Rattle.keyfile.specs.Groups.{entry_at, get_in, is_key, is_key_file, is_name, is_value, key_count, may_be_put, opened, place_of, put_at, put_in};
+ghost use Rattle.keyfile.specs.Groups.{entries_in, entry_at, get_in, has_group, is_key, is_key_file, is_name, is_entry_value, key_count, may_be_put, with_group, group_place, put_at, put_in};
 ghost use Rattle.keyfile.specs.Reading.{read_of};
 
 use crate::writing::write_groups;
 use indexmap::IndexMap;
-use std::alloc::Global;
+use std::alloc::{AllocError, Global};
 use std::marker::Model;
 use updater_text::NoMemory;
 
@@ -102,20 +102,10 @@ impl KeyFile {
         ensures ok { OnOk result (self.new ≡ put_in self.old group.now key.now value.now) }
         ensures err { OnErr result (self.new ≡ self.old) }
     {
-        let key = String::from_str(self.alloc, key)?;
         let value = String::from_str(self.alloc, value)?;
-        match self.groups.get_mut(group) {
-            Some(entries) => {
-                entries.insert(key, value)?;
-                Ok(())
-            }
-            None => {
-                let name = String::from_str(self.alloc, group)?;
-                let mut entries = IndexMap::new(self.alloc);
-                entries.insert(key, value)?;
-                self.groups.insert(name, entries)?;
-                Ok(())
-            }
+        match self.groups.get_index_of(group) {
+            Some(at) => self.put_at(at, key, value),
+            None => self.push_group(group, key, value),
         }
     }
 
@@ -141,11 +131,24 @@ impl KeyFile {
         let _ = &self.groups;
     }
 
+    // Puts a new group with one key at the end.
+    fn push_group(&mut self, group: &str, key: &str, value: String) -> Result<(), NoMemory>
+        requires new { has_group self.old group.now ≡ false }
+        requires fits { IsTrue (may_be_put group.now key.now (string_bytes value)) }
+        ensures ok { OnOk result (self.new ≡ put_in self.old group.now key.now (string_bytes value)) }
+        ensures err { OnErr result (self.new ≡ self.old) }
+    {
+        let entries = one_entry(self.alloc, key, value)?;
+        let name = String::from_str(self.alloc, group)?;
+        self.groups.insert(name, entries)?;
+        Ok(())
+    }
+
     // The place of the group of this name, which goes last where it is new.
     pub(crate) fn open(&mut self, name: &str) -> Result<usize, NoMemory>
         requires { IsTrue (is_name name.now) }
-        ensures opened { OnOk result (self.new ≡ opened self.old name.now) }
-        ensures place { IfOk result (λ at. at ≡ place_of self.old name.now) }
+        ensures with_group { OnOk result (self.new ≡ with_group self.old name.now) }
+        ensures place { IfOk result (λ at. at ≡ group_place self.old name.now) }
         ensures err { OnErr result (self.new ≡ self.old) }
     {
         if let Some(at) = self.groups.get_index_of(name) {
@@ -160,7 +163,7 @@ impl KeyFile {
     // Gives a key of the group at a place a value, where a group is there.
     pub(crate) fn put_at(&mut self, at: usize, key: &str, value: String) -> Result<(), NoMemory>
         requires key { IsTrue (is_key key.now) }
-        requires value { IsTrue (is_value (string_bytes value)) }
+        requires value { IsTrue (is_entry_value (string_bytes value)) }
         ensures ok { OnOk result (self.new ≡ put_at self.old at key.now (string_bytes value)) }
         ensures err { OnErr result (self.new ≡ self.old) }
     {
@@ -171,4 +174,14 @@ impl KeyFile {
         entries.insert(name, value)?;
         Ok(())
     }
+}
+
+// A map with one entry.
+fn one_entry(alloc: Global, key: &str, value: String) -> Result<Entries, AllocError>
+    ensures { IfOk result (λ m. entries_in m.entries ≡ (key.now, string_bytes value) ∷ []) }
+{
+    let key = String::from_str(alloc, key)?;
+    let mut entries = IndexMap::new(alloc);
+    entries.insert(key, value)?;
+    Ok(entries)
 }

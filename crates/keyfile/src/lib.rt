@@ -1,6 +1,7 @@
 //! Key files: groups of keys and values, as text.
 #![tactic(auto)]
 
+mod cause;
 mod escape;
 mod fault;
 mod forms;
@@ -10,11 +11,9 @@ mod list;
 mod reading;
 mod writing;
 
+pub use cause::key_cause;
 pub use fault::KeyFault;
 pub use forms::fits;
 pub use key_file::KeyFile;
 pub use list::items;
 pub use reading::read;
-
-#[cfg(test)]
-mod tests;

@@ -1,5 +1,5 @@
 ghost use Rattle.std.specs.Prelude.{◌≡◌, ◌<◌, MatchOption, length, option_copied, option_map};
-ghost use Rattle.keyfile.specs.Lines.{after_blanks, before_blanks, bracketed, entry_of, heading_of, is_silent, line_of, said_by, shown};
+ghost use Rattle.keyfile.specs.Lines.{after_blanks, before_blanks, bracket_name, entry_of, heading_of, is_silent, line_of, unindented_line, line_meaning};
 
 use crate::forms::{has_line_bytes, is_key, is_name};
 
@@ -71,8 +71,8 @@ fn is_silent(text: &str) -> bool
 }
 
 // The name in `[name]`.
-fn bracketed(text: &str) -> Option<&str>
-    ensures { option_copied result ≡ bracketed text.now }
+fn bracket_name(text: &str) -> Option<&str>
+    ensures { option_copied result ≡ bracket_name text.now }
 {
     let name = text.strip_prefix('[')?.strip_suffix(']')?;
     if is_name(name) { Some(name) } else { None }
@@ -93,13 +93,13 @@ fn entry_of(text: &str) -> Option<(&str, &str)>
 }
 
 // What a line says that begins with no blank.
-fn said_by(text: &str) -> Line<'_>
-    ensures { shown result ≡ said_by text.now }
+fn unindented_line(text: &str) -> Line<'_>
+    ensures { line_meaning result ≡ unindented_line text.now }
 {
     if is_silent(text) {
         return Line::Nothing;
     }
-    if let Some(name) = bracketed(before_blanks(text)) {
+    if let Some(name) = bracket_name(before_blanks(text)) {
         return Line::Heading(name);
     }
     match entry_of(text) {
@@ -110,7 +110,7 @@ fn said_by(text: &str) -> Line<'_>
 
 /// What a line says.
 pub fn line_of(text: &str) -> Line<'_>
-    ensures { shown result ≡ line_of text.now }
+    ensures { line_meaning result ≡ line_of text.now }
 {
-    said_by(after_blanks(text))
+    unindented_line(after_blanks(text))
 }

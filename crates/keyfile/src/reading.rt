@@ -1,12 +1,12 @@
 ghost use Rattle.std.specs.Prelude.{◌≡◌, IsTrue, length, map};
 ghost use Rattle.std.specs.Str.Lines.{lines};
 ghost use Rattle.std.specs.List.{list_all};
-ghost use Rattle.keyfile.specs.Escapes.{unescaped};
+ghost use Rattle.keyfile.specs.Escapes.{unescape};
 ghost use Rattle.keyfile.specs.Groups.{is_key, is_line_byte};
-ghost use Rattle.keyfile.specs.Lines.{is_formed, line_of, shown};
+ghost use Rattle.keyfile.specs.Lines.{has_line_form, line_of, line_meaning};
 ghost use Rattle.updater_text.specs.Answers.{Gives};
 ghost use Rattle.keyfile.specs.Reading.{read_lines_of, read_of};
-ghost use Rattle.keyfile.specs.Steps.{Took, after_entry, after_line};
+ghost use Rattle.keyfile.specs.Steps.{GivesState, after_entry, after_line};
 
 use crate::escape::unescape;
 use crate::line::{Line, line_of};
@@ -70,8 +70,8 @@ fn take_line(
     number: u64,
     line: Line<'_>,
 ) -> Result<Option<usize>, Lack<KeyFault>>
-    requires { IsTrue (is_formed (shown line)) }
-    ensures { Took result file.new (after_line file.old group number (shown line.entry)) }
+    requires { IsTrue (has_line_form (line_meaning line)) }
+    ensures { GivesState result file.new (after_line file.old group number (line_meaning line.entry)) }
 {
     match line {
         Line::Nothing => Ok(group),
@@ -98,7 +98,7 @@ fn take_entry(
 ) -> Result<Option<usize>, Lack<KeyFault>>
     requires key { IsTrue (is_key key.now) }
     requires value { IsTrue (list_all is_line_byte written.now) }
-    ensures { Took result file.new (after_entry file.old at number key.now (unescaped written.now)) }
+    ensures { GivesState result file.new (after_entry file.old at number key.now (unescape written.now)) }
 {
     match unescape(alloc, written) {
         Ok(Some(value)) => match file.put_at(at, key, value) {

@@ -1,7 +1,8 @@
 -- Which call failed first, and whether it was the last.
-use Rattle.std.proofs.Common.{◌≡◌, ◌++◌, ℕ, Bool, List, [], ◌∷◌, Option, None, Result, Ok, Err, IsTrue, refl, sym, ◌∙◌, ap, subst}
-use Rattle.std.proofs.lemmas.List.{append-nil}
-use Rattle.updater_text.specs.declared.stops.Fault.{Fault}
+use Rattle.std.proofs.Common.{◌≡◌, ◌++◌, ◌+◌, ◌-◌, ℕ, Bool, List, [], ◌∷◌, length, take, Option, None, Result, Ok, Err, IsTrue, refl, sym, ◌∙◌, ap, subst, arith}
+use Rattle.std.proofs.lemmas.List.{append-nil, length-append}
+use Rattle.std.proofs.Math.Seq.{take-append-add}
+use Rattle.machine.specs.declared.stops.Fault.{Fault}
 use Rattle.machine.specs.declared.calls.CallStop.{CallStop}
 use Rattle.machine.specs.declared.calls.CallStop.TheVariants.{Failed, NoMemory}
 use Rattle.machine.specs.declared.calls.ReadStop.{ReadStop}
@@ -10,7 +11,7 @@ use Rattle.machine.specs.declared.calls.RunStop.{RunStop}
 use Rattle.machine.specs.declared.calls.RunStop.TheVariants as run
 use Rattle.machine.specs.declared.world.Child.{Child}
 use Rattle.machine.specs.declared.world.Exit.{Exit}
-use Rattle.machine.specs.Past.{Call, File, Run, End, Done, Broken, Overlong, Moment, Past, now, made, Grows, Did, kind_of, failed_or, first_failed, last_failed, failed_since, Fails}
+use Rattle.machine.specs.Past.{Call, File, Run, End, Done, Broken, Overlong, Moment, Past, world_now, moments_since, Grows, IsCall, kind_of, failed_or, first_failed, failed_since, but_last, Fails}
 use Rattle.machine.specs.Calls.{Ends, FileEnds, RunEnds, call_fault, file_fault, run_fault}
 use Rattle.machine.proofs.Moments.{made_more, made_none, made_joins, grows_refl, grows_trans, did_grows}
 
@@ -24,47 +25,49 @@ first_failed-append [] ns e = refl
 first_failed-append (m ∷ ms) ns e =
     failed_or-append m.end (kind_of m.call) (first_failed ms) (first_failed ns) (first_failed (ms ++ ns)) (λ h. first_failed-append ms ns h) e
 
-last_failed-some : (ms : List Moment) (n : Moment) (ns : List Moment) → last_failed (ms ++ n ∷ ns) ≡ last_failed (n ∷ ns)
-last_failed-some [] n ns = refl
-last_failed-some (m ∷ []) n ns = refl
-last_failed-some (m ∷ l ∷ ms) n ns = last_failed-some (l ∷ ms) n ns
+-- but for the last
+but_last-append : (ms : List Moment) (n : Moment) (ns : List Moment) → but_last (ms ++ n ∷ ns) ≡ ms ++ but_last (n ∷ ns)
+but_last-append ms n ns =
+    let more : length (ms ++ n ∷ ns) - 1 ≡ length ms + (length (n ∷ ns) - 1) = omega (arith, length-append ms (n ∷ ns)) in
+    ap (λ (k : ℕ). take k (ms ++ n ∷ ns)) more ∙ take-append-add ms (n ∷ ns) (length (n ∷ ns) - 1)
 
-last_failed-append : (ms ns : List Moment) → last_failed ms ≡ None → last_failed (ms ++ ns) ≡ last_failed ns
-last_failed-append ms [] e = ap last_failed (append-nil ms) ∙ e
-last_failed-append ms (n ∷ ns) e = last_failed-some ms n ns
+before-append : (ms ns : List Moment) → first_failed ms ≡ None → first_failed (but_last ms) ≡ None → first_failed (but_last ns) ≡ None → first_failed (but_last (ms ++ ns)) ≡ None
+before-append ms [] all left right = ap (λ (xs : List Moment). first_failed (but_last xs)) (append-nil ms) ∙ left
+before-append ms (n ∷ ns) all left right =
+    ap first_failed (but_last-append ms n ns) ∙ first_failed-append ms (but_last (n ∷ ns)) all ∙ right
 
 -- nothing done
 pub fails_none : (t : Bool) (a : Past) → Fails t a a None
-fails_none t a = record { grows = λ told. grows_refl a; first = λ told. ap first_failed (made_none a); last = λ told. ap last_failed (made_none a) }
+fails_none t a = record { grows = λ told. grows_refl a; first = λ told. ap first_failed (made_none a); before = λ told. ap (λ (ms : List Moment). first_failed (but_last ms)) (made_none a) }
 
 -- what failed since a moment, where nothing failed before
 pub failed_joins : (a b c : Past) → Grows a b → Grows b c → failed_since a b ≡ None → failed_since a c ≡ failed_since b c
-failed_joins a b c ab bc none = ap first_failed (made_joins a b c ab bc) ∙ first_failed-append (made a b) (made b c) none
+failed_joins a b c ab bc none = ap first_failed (made_joins a b c ab bc) ∙ first_failed-append (moments_since a b) (moments_since b c) none
 
 -- one run after another
 pub fails_join : (t : Bool) (a b c : Past) (kind : Option Fault) → Fails t a b None → Fails t b c kind → Fails t a c kind
 fails_join t a b c kind ab bc = record {
   grows = λ told. grows_trans a b c (ab.grows told) (bc.grows told);
-  first = λ told. ap first_failed (made_joins a b c (ab.grows told) (bc.grows told)) ∙ first_failed-append (made a b) (made b c) (ab.first told) ∙ bc.first told;
-  last = λ told. ap last_failed (made_joins a b c (ab.grows told) (bc.grows told)) ∙ last_failed-append (made a b) (made b c) (ab.last told) ∙ bc.last told;
+  first = λ told. ap first_failed (made_joins a b c (ab.grows told) (bc.grows told)) ∙ first_failed-append (moments_since a b) (moments_since b c) (ab.first told) ∙ bc.first told;
+  before = λ told. ap (λ (ms : List Moment). first_failed (but_last ms)) (made_joins a b c (ab.grows told) (bc.grows told)) ∙ before-append (moments_since a b) (moments_since b c) (ab.first told) (ab.before told) (bc.before told);
 }
 
 -- one call
-did_made : (a b : Past) (call : Call) (end : End) → Did a b call end → made a b ≡ record { call = call; end = end; after = now b } ∷ []
-did_made a b call end did = ap (λ (p : Past). made a p) did.grows ∙ made_more a (record { call = call; end = end; after = now b } ∷ [])
+did_made : (a b : Past) (call : Call) (end : End) → IsCall a b call end → moments_since a b ≡ record { call = call; end = end; after = world_now b } ∷ []
+did_made a b call end did = ap (λ (p : Past). moments_since a p) did.grows ∙ made_more a (record { call = call; end = end; after = world_now b } ∷ [])
 
 same_fails : (t : Bool) (a b : Past) → (IsTrue t → b ≡ a) → Fails t a b None
 same_fails t a b same = record {
   grows = λ told. subst (λ (q : Past). Grows a q) (sym (same told)) (grows_refl a);
   first = λ told. subst (λ (q : Past). failed_since a q ≡ None) (sym (same told)) ((fails_none t a).first told);
-  last = λ told. subst (λ (q : Past). last_failed (made a q) ≡ None) (sym (same told)) ((fails_none t a).last told);
+  before = λ told. subst (λ (q : Past). first_failed (but_last (moments_since a q)) ≡ None) (sym (same told)) ((fails_none t a).before told);
 }
 
-one_fails : (t : Bool) (a b : Past) (call : Call) (end : End) → (IsTrue t → Did a b call end) → Fails t a b (failed_or end (kind_of call) None)
+one_fails : (t : Bool) (a b : Past) (call : Call) (end : End) → (IsTrue t → IsCall a b call end) → Fails t a b (failed_or end (kind_of call) None)
 one_fails t a b call end did = record {
   grows = λ told. did_grows a b call end (did told);
   first = λ told. ap first_failed (did_made a b call end (did told));
-  last = λ told. ap last_failed (did_made a b call end (did told));
+  before = λ told. ap (λ (ms : List Moment). first_failed (but_last ms)) (did_made a b call end (did told));
 }
 
 pub fails_call : {T : Type 0} (t : Bool) (a b : Past) (call : Call) (result : Result T CallStop) → (IsTrue t → Ends a b call result) → Fails t a b (call_fault (kind_of call) result)

@@ -5,82 +5,82 @@ use Rattle.machine.specs.declared.world.World.{World}
 use Rattle.machine.specs.declared.calls.CallStop.{CallStop}
 use Rattle.machine.specs.declared.calls.CallStop.TheVariants.{Failed, NoMemory}
 use Rattle.machine.specs.Crash.{Crash}
-use Rattle.machine.specs.Past.{Call, End, Done, Broken, Moment, Past, After, Inside, world_after, now, more, made, Grows, WasIn, Was, Held, Always, Did, until, HeldSince, HeldJoins}
+use Rattle.machine.specs.Past.{Call, End, Done, Broken, Moment, Past, After, Inside, world_after, world_now, with_moments, moments_since, Grows, WorldAmong, WorldSince, Held, Always, IsCall, until, HeldSince, HeldJoins}
 use Rattle.machine.specs.Calls.{Ends}
 
-pub made_more : (p : Past) (ms : List Moment) → made p (more p ms) ≡ ms
+pub made_more : (p : Past) (ms : List Moment) → moments_since p (with_moments p ms) ≡ ms
 made_more p ms = drop_at p.moments ms (length p.moments) refl
 
-pub grows_more : (p : Past) (ms : List Moment) → Grows p (more p ms)
-grows_more p ms = ap (λ (ns : List Moment). more p ns) (sym (made_more p ms))
+pub grows_more : (p : Past) (ms : List Moment) → Grows p (with_moments p ms)
+grows_more p ms = ap (λ (ns : List Moment). with_moments p ns) (sym (made_more p ms))
 
-more_none : (p : Past) → more p [] ≡ p
+more_none : (p : Past) → with_moments p [] ≡ p
 more_none p = ap (λ (ms : List Moment). record p { moments = ms }) (append-nil p.moments)
 
 pub grows_refl : (p : Past) → Grows p p
 grows_refl p = subst (λ (q : Past). Grows p q) (more_none p) (grows_more p [])
 
-pub made_none : (p : Past) → made p p ≡ []
-made_none p = subst (λ (q : Past). made p q ≡ []) (more_none p) (made_more p [])
+pub made_none : (p : Past) → moments_since p p ≡ []
+made_none p = subst (λ (q : Past). moments_since p q ≡ []) (more_none p) (made_more p [])
 
 pub world_after-append : (w : World) (ms ns : List Moment) → world_after w (ms ++ ns) ≡ world_after (world_after w ms) ns
 world_after-append w [] ns = refl
 world_after-append w (m ∷ ms) ns = world_after-append m.after ms ns
 
-pub now-more : (p : Past) (ms : List Moment) → now (more p ms) ≡ world_after (now p) ms
+pub now-more : (p : Past) (ms : List Moment) → world_now (with_moments p ms) ≡ world_after (world_now p) ms
 now-more p ms = world_after-append p.first p.moments ms
 
-pub now-grows : (a b : Past) → Grows a b → now b ≡ world_after (now a) (made a b)
-now-grows a b g = ap now g ∙ now-more a (made a b)
+pub now-grows : (a b : Past) → Grows a b → world_now b ≡ world_after (world_now a) (moments_since a b)
+now-grows a b g = ap world_now g ∙ now-more a (moments_since a b)
 
-more_joins : (a b c : Past) → Grows a b → Grows b c → c ≡ more a (made a b ++ made b c)
+more_joins : (a b c : Past) → Grows a b → Grows b c → c ≡ with_moments a (moments_since a b ++ moments_since b c)
 more_joins a b c ab bc =
     bc
-    ∙ ap (λ (p : Past). more p (made b c)) ab
-    ∙ ap (λ (ms : List Moment). record a { moments = ms }) (append_assoc a.moments (made a b) (made b c))
+    ∙ ap (λ (p : Past). with_moments p (moments_since b c)) ab
+    ∙ ap (λ (ms : List Moment). record a { moments = ms }) (append_assoc a.moments (moments_since a b) (moments_since b c))
 
-pub made_joins : (a b c : Past) → Grows a b → Grows b c → made a c ≡ made a b ++ made b c
+pub made_joins : (a b c : Past) → Grows a b → Grows b c → moments_since a c ≡ moments_since a b ++ moments_since b c
 made_joins a b c ab bc =
-    ap (λ (p : Past). made a p) (more_joins a b c ab bc) ∙ made_more a (made a b ++ made b c)
+    ap (λ (p : Past). moments_since a p) (more_joins a b c ab bc) ∙ made_more a (moments_since a b ++ moments_since b c)
 
 pub grows_trans : (a b c : Past) → Grows a b → Grows b c → Grows a c
 grows_trans a b c ab bc =
-    subst (λ (q : Past). Grows a q) (sym (more_joins a b c ab bc)) (grows_more a (made a b ++ made b c))
+    subst (λ (q : Past). Grows a q) (sym (more_joins a b c ab bc)) (grows_more a (moments_since a b ++ moments_since b c))
 
 -- each world of two runs is one of the first or one of the second
-pub WasIn-append : (w : World) (ms ns : List Moment) (u : World) → WasIn w (ms ++ ns) u → WasIn w ms u ⊎ WasIn (world_after w ms) ns u
+pub WasIn-append : (w : World) (ms ns : List Moment) (u : World) → WorldAmong w (ms ++ ns) u → WorldAmong w ms u ⊎ WorldAmong (world_after w ms) ns u
 WasIn-append w [] ns u was = inr was
 WasIn-append w (m ∷ ms) ns u (inl e) = inl (inl e)
 WasIn-append w (m ∷ ms) ns u (inr (inl inside)) = inl (inr (inl inside))
 WasIn-append w (m ∷ ms) ns u (inr (inr later)) =
     ⊎_elim (λ h. inl (inr (inr h))) (λ h. inr h) (WasIn-append m.after ms ns u later)
 
-pub WasIn-left : (w : World) (ms ns : List Moment) (u : World) → WasIn w ms u → WasIn w (ms ++ ns) u
+pub WasIn-left : (w : World) (ms ns : List Moment) (u : World) → WorldAmong w ms u → WorldAmong w (ms ++ ns) u
 WasIn-left w [] [] u e = e
 WasIn-left w [] (n ∷ ns) u e = inl e
 WasIn-left w (m ∷ ms) ns u (inl e) = inl e
 WasIn-left w (m ∷ ms) ns u (inr (inl inside)) = inr (inl inside)
 WasIn-left w (m ∷ ms) ns u (inr (inr later)) = inr (inr (WasIn-left m.after ms ns u later))
 
-pub WasIn-right : (w : World) (ms ns : List Moment) (u : World) → WasIn (world_after w ms) ns u → WasIn w (ms ++ ns) u
+pub WasIn-right : (w : World) (ms ns : List Moment) (u : World) → WorldAmong (world_after w ms) ns u → WorldAmong w (ms ++ ns) u
 WasIn-right w [] ns u was = was
 WasIn-right w (m ∷ ms) ns u was = inr (inr (WasIn-right m.after ms ns u was))
 
 module _ (a b c : Past) (ab : Grows a b) (bc : Grows b c) (u : World) where
-  pub was_splits : Was a c u → Was a b u ⊎ Was b c u
+  pub was_splits : WorldSince a c u → WorldSince a b u ⊎ WorldSince b c u
   was_splits was =
-      let at = subst (λ (ms : List Moment). WasIn (now a) ms u) (made_joins a b c ab bc) was in
-      let back : WasIn (world_after (now a) (made a b)) (made b c) u → Was b c u = λ h. subst (λ (w : World). WasIn w (made b c) u) (sym (now-grows a b ab)) h in
-      ⊎_elim (λ h. inl h) (λ h. inr (back h)) (WasIn-append (now a) (made a b) (made b c) u at)
+      let at = subst (λ (ms : List Moment). WorldAmong (world_now a) ms u) (made_joins a b c ab bc) was in
+      let back : WorldAmong (world_after (world_now a) (moments_since a b)) (moments_since b c) u → WorldSince b c u = λ h. subst (λ (w : World). WorldAmong w (moments_since b c) u) (sym (now-grows a b ab)) h in
+      ⊎_elim (λ h. inl h) (λ h. inr (back h)) (WasIn-append (world_now a) (moments_since a b) (moments_since b c) u at)
 
-  pub was_before : Was a b u → Was a c u
+  pub was_before : WorldSince a b u → WorldSince a c u
   was_before was =
-      subst (λ (ms : List Moment). WasIn (now a) ms u) (sym (made_joins a b c ab bc)) (WasIn-left (now a) (made a b) (made b c) u was)
+      subst (λ (ms : List Moment). WorldAmong (world_now a) ms u) (sym (made_joins a b c ab bc)) (WasIn-left (world_now a) (moments_since a b) (moments_since b c) u was)
 
-  pub was_after : Was b c u → Was a c u
+  pub was_after : WorldSince b c u → WorldSince a c u
   was_after was =
-      subst (λ (ms : List Moment). WasIn (now a) ms u) (sym (made_joins a b c ab bc))
-      (WasIn-right (now a) (made a b) (made b c) u (subst (λ (w : World). WasIn w (made b c) u) (now-grows a b ab) was))
+      subst (λ (ms : List Moment). WorldAmong (world_now a) ms u) (sym (made_joins a b c ab bc))
+      (WasIn-right (world_now a) (moments_since a b) (moments_since b c) u (subst (λ (w : World). WorldAmong w (moments_since b c) u) (now-grows a b ab) was))
 
 -- the law that joins what calls say of a stop
 pub held_splits : (a b c : Past) → Grows a b → Grows b c → (v : World) → Held a c v → Held a b v ⊎ Held b c v
@@ -92,10 +92,10 @@ held_joins a b c ab bc v (inl h) = (h.0, was_before a b c ab bc h.0 h.1, h.2)
 held_joins a b c ab bc v (inr h) = (h.0, was_after a b c ab bc h.0 h.1, h.2)
 
 -- `Always`: before the first call, over two runs, over one call
-pub always_start : (a : Past) (P : World → Type 0) → P (now a) → Always a a P
+pub always_start : (a : Past) (P : World → Type 0) → P (world_now a) → Always a a P
 always_start a P here = record {
   grows = grows_refl a;
-  each = λ u was. subst P (sym (subst (λ (ms : List Moment). WasIn (now a) ms u) (made_none a) was)) here;
+  each = λ u was. subst P (sym (subst (λ (ms : List Moment). WorldAmong (world_now a) ms u) (made_none a) was)) here;
 }
 
 pub always_joins : (a b c : Past) (P : World → Type 0) → Always a b P → Always b c P → Always a c P
@@ -107,23 +107,23 @@ always_joins a b c P ab bc = record {
 pub always_weaker : (a b : Past) (P Q : World → Type 0) → ((u : World) → P u → Q u) → Always a b P → Always a b Q
 always_weaker a b P Q f ab = record { grows = ab.grows; each = λ u was. f u (ab.each u was) }
 
-pub did_grows : (a b : Past) (call : Call) (end : End) → Did a b call end → Grows a b
+pub did_grows : (a b : Past) (call : Call) (end : End) → IsCall a b call end → Grows a b
 did_grows a b call end did =
-    subst (λ (q : Past). Grows a q) (sym did.grows) (grows_more a (record { call = call; end = end; after = now b } ∷ []))
+    subst (λ (q : Past). Grows a q) (sym did.grows) (grows_more a (record { call = call; end = end; after = world_now b } ∷ []))
 
-pub always_did : (a b : Past) (call : Call) (end : End) (P : World → Type 0) → Did a b call end → P (now a) → ((u : World) → Inside call (now a) u → P u) → P (now b) → Always a b P
+pub always_did : (a b : Past) (call : Call) (end : End) (P : World → Type 0) → IsCall a b call end → P (world_now a) → ((u : World) → Inside call (world_now a) u → P u) → P (world_now b) → Always a b P
 always_did a b call end P did here inside there = record {
   grows = did_grows a b call end did;
   each = λ u was.
-      let made_one = ap (λ (p : Past). made a p) did.grows ∙ made_more a (record { call = call; end = end; after = now b } ∷ []) in
-      let at = subst (λ (ms : List Moment). WasIn (now a) ms u) made_one was in
+      let made_one = ap (λ (p : Past). moments_since a p) did.grows ∙ made_more a (record { call = call; end = end; after = world_now b } ∷ []) in
+      let at = subst (λ (ms : List Moment). WorldAmong (world_now a) ms u) made_one was in
       ⊎_elim (λ e. subst P (sym e) here) (λ h. ⊎_elim (inside u) (λ e. subst P (sym e) there) h) at;
 }
 
 -- however the call ended
-pub always_ends : {T : Type 0} (a b : Past) (call : Call) (P : World → Type 0) (result : Result T CallStop) → Ends a b call result → P (now a) → ((u : World) → Inside call (now a) u → P u) → ((end : End) (v : World) → After call end (now a) v → P v) → Always a b P
-always_ends a b call P (Ok x) did here inside after = always_did a b call Done P did here inside (after Done (now b) did.after)
-always_ends a b call P (Err Failed) did here inside after = always_did a b call Broken P did here inside (after Broken (now b) did.after)
+pub always_ends : {T : Type 0} (a b : Past) (call : Call) (P : World → Type 0) (result : Result T CallStop) → Ends a b call result → P (world_now a) → ((u : World) → Inside call (world_now a) u → P u) → ((end : End) (v : World) → After call end (world_now a) v → P v) → Always a b P
+always_ends a b call P (Ok x) did here inside after = always_did a b call Done P did here inside (after Done (world_now b) did.after)
+always_ends a b call P (Err Failed) did here inside after = always_did a b call Broken P did here inside (after Broken (world_now b) did.after)
 always_ends a b call P (Err NoMemory) same here inside after = subst (λ (q : Past). Always a q P) (sym same) (always_start a P here)
 
 -- what a stop leaves
@@ -131,18 +131,18 @@ pub held_of : (a b : Past) (P Q : World → Type 0) → Always a b P → ((u v :
 held_of a b P Q ab f v held = f held.0 v (ab.each held.0 held.1) held.2
 
 -- the world now is one of those since
-WasIn-last : (w : World) (ms : List Moment) → WasIn w ms (world_after w ms)
+WasIn-last : (w : World) (ms : List Moment) → WorldAmong w ms (world_after w ms)
 WasIn-last w [] = refl
 WasIn-last w (m ∷ ms) = inr (inr (WasIn-last m.after ms))
 
-pub was_now : (a b : Past) → Grows a b → Was a b (now b)
-was_now a b g = subst (λ (w : World). Was a b w) (sym (now-grows a b g)) (WasIn-last (now a) (made a b))
+pub was_now : (a b : Past) → Grows a b → WorldSince a b (world_now b)
+was_now a b g = subst (λ (w : World). WorldSince a b w) (sym (now-grows a b g)) (WasIn-last (world_now a) (moments_since a b))
 
-pub always_now : (a b : Past) (P : World → Type 0) → Always a b P → P (now b)
-always_now a b P ab = ab.each (now b) (was_now a b ab.grows)
+pub always_now : (a b : Past) (P : World → Type 0) → Always a b P → P (world_now b)
+always_now a b P ab = ab.each (world_now b) (was_now a b ab.grows)
 
 -- one call more
-pub always_goes_on : {T : Type 0} (a b c : Past) (call : Call) (P : World → Type 0) (result : Result T CallStop) → Always a b P → Ends b c call result → ((u : World) → P (now b) → Inside call (now b) u → P u) → ((end : End) (v : World) → P (now b) → After call end (now b) v → P v) → Always a c P
+pub always_goes_on : {T : Type 0} (a b c : Past) (call : Call) (P : World → Type 0) (result : Result T CallStop) → Always a b P → Ends b c call result → ((u : World) → P (world_now b) → Inside call (world_now b) u → P u) → ((end : End) (v : World) → P (world_now b) → After call end (world_now b) v → P v) → Always a c P
 always_goes_on a b c call P result ab ends inside after =
     let here = always_now a b P ab in
     always_joins a b c P ab (always_ends b c call P result ends here (λ u h. inside u here h) (λ end v h. after end v here h))

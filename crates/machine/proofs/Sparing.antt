@@ -10,10 +10,10 @@ use Rattle.machine.specs.declared.world.Span.{Span}
 use Rattle.machine.specs.declared.world.World.{World}
 use Rattle.machine.specs.declared.calls.RunStop.{RunStop}
 use Rattle.machine.specs.declared.calls.RunStop.TheVariants as run
-use Rattle.machine.specs.World.{bytes_under, file, put_under, replaced}
+use Rattle.machine.specs.World.{bytes_under, file, put_under, with_file}
 use Rattle.machine.specs.Crash.{covers, is_in}
 use Rattle.machine.specs.Spares.{Spared, spans_of}
-use Rattle.machine.specs.Past.{Past, Run, Done, Broken, Inside, Ran, Always, now}
+use Rattle.machine.specs.Past.{Past, Run, Done, Broken, Inside, IsRun, Always, world_now}
 use Rattle.machine.specs.Calls.{RunEnds}
 use Rattle.machine.proofs.Moments.{always_did, always_start}
 use Rattle.machine.proofs.Worlds.{bytes_eq_other}
@@ -51,11 +51,11 @@ is_in-spans_of (s ∷ ss) path i =
     ] refl
 
 -- the run of a child, however it ended
-pub always_run : (a b : Past) (child : Child) (P : World → Type 0) (result : Result Exit RunStop) → RunEnds a b child result → P (now a) → ((u : World) → Inside (Run child) (now a) u → P u) → ((exit : Exit) (v : World) → Ran child exit (now a) v → P v) → Always a b P
+pub always_run : (a b : Past) (child : Child) (P : World → Type 0) (result : Result Exit RunStop) → RunEnds a b child result → P (world_now a) → ((u : World) → Inside (Run child) (world_now a) u → P u) → ((exit : Exit) (v : World) → IsRun child exit (world_now a) v → P v) → Always a b P
 always_run a b child P (Ok exit) ends here inside after =
-    always_did a b (Run child) Done P ends.0 here inside (after ends.0.after.0 (now b) ends.0.after.1)
+    always_did a b (Run child) Done P ends.0 here inside (after ends.0.after.0 (world_now b) ends.0.after.1)
 always_run a b child P (Err run.Failed) did here inside after =
-    always_did a b (Run child) Broken P did here inside (subst P (sym did.after) here)
+    always_did a b (Run child) Broken P did here inside (inside (world_now b) did.after)
 always_run a b child P (Err run.NoMemory) same here inside after = subst (λ (q : Past). Always a q P) (sym same) (always_start a P here)
 
 -- what stands under a path after bytes were put
@@ -79,12 +79,12 @@ bytes_under-put_other (n ∷ ns) p q bytes ne =
     ] refl
 
 -- a file that was replaced, and every other
-pub file-replaced : (w : World) (p bytes : List ℕ) → file (replaced w p bytes) p ≡ Some bytes
-unfolding replaced
+pub file-replaced : (w : World) (p bytes : List ℕ) → file (with_file w p bytes) p ≡ Some bytes
+unfolding with_file
 file-replaced w p bytes = bytes_under-put_same w.files p bytes
 
-pub file-replaced_other : (w : World) (p q bytes : List ℕ) → q ≢ p → file (replaced w p bytes) q ≡ file w q
-unfolding replaced
+pub file-replaced_other : (w : World) (p q bytes : List ℕ) → q ≢ p → file (with_file w p bytes) q ≡ file w q
+unfolding with_file
 file-replaced_other w p q bytes ne = bytes_under-put_other w.files p q bytes ne
 
 -- what stands under a path of which nothing is dropped

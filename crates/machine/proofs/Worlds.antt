@@ -11,7 +11,7 @@ use Rattle.std.proofs.lemmas.Bool.Decides.{nat_tests}
 use Rattle.machine.specs.declared.world.Named.{Named}
 use Rattle.machine.specs.declared.world.Span.{Span}
 use Rattle.machine.specs.declared.world.World.{World}
-use Rattle.machine.specs.World.{bytes_under, disk, patched, patch_under}
+use Rattle.machine.specs.World.{bytes_under, disk, patch_at, patch_under}
 use Rattle.machine.specs.Crash.{covers, is_in, Crash}
 
 or_from_left : (x y : Bool) → x ≡ true → (x || y) ≡ true
@@ -33,11 +33,11 @@ bytes_eq_other p q ne =
     ] refl
 
 -- under the path
-pub bytes_under-patch_same : (ns : List Named) (p : List ℕ) (at : ℕ) (bytes old : List ℕ) → bytes_under ns p ≡ Some old → bytes_under (patch_under ns p at bytes) p ≡ Some (patched old at bytes)
+pub bytes_under-patch_same : (ns : List Named) (p : List ℕ) (at : ℕ) (bytes old : List ℕ) → bytes_under ns p ≡ Some old → bytes_under (patch_under ns p at bytes) p ≡ Some (patch_at old at bytes)
 bytes_under-patch_same [] p at bytes old h = cc
 bytes_under-patch_same (n ∷ ns) p at bytes old h =
-    elim (bytes_eq n.path p) as (λ b. bytes_eq n.path p ≡ b → (cond b (Some n.bytes) (bytes_under ns p) ≡ Some old) → bytes_under (cond b (record n { bytes = patched n.bytes at bytes } ∷ ns) (n ∷ patch_under ns p at bytes)) p ≡ Some (patched old at bytes)) [
-      | true ↦ λ e s. let same : n.bytes ≡ old = cc in rw e (ap (λ (b : List ℕ). Some (patched b at bytes)) same)
+    elim (bytes_eq n.path p) as (λ b. bytes_eq n.path p ≡ b → (cond b (Some n.bytes) (bytes_under ns p) ≡ Some old) → bytes_under (cond b (record n { bytes = patch_at n.bytes at bytes } ∷ ns) (n ∷ patch_under ns p at bytes)) p ≡ Some (patch_at old at bytes)) [
+      | true ↦ λ e s. let same : n.bytes ≡ old = cc in rw e (ap (λ (b : List ℕ). Some (patch_at b at bytes)) same)
       | false ↦ λ e s. rw e (bytes_under-patch_same ns p at bytes old s)
     ] refl h
 
@@ -45,7 +45,7 @@ bytes_under-patch_same (n ∷ ns) p at bytes old h =
 pub bytes_under-patch_other : (ns : List Named) (p q : List ℕ) (at : ℕ) (bytes : List ℕ) → q ≢ p → bytes_under (patch_under ns p at bytes) q ≡ bytes_under ns q
 bytes_under-patch_other [] p q at bytes ne = refl
 bytes_under-patch_other (n ∷ ns) p q at bytes ne =
-    elim (bytes_eq n.path p) as (λ b. bytes_eq n.path p ≡ b → bytes_under (cond b (record n { bytes = patched n.bytes at bytes } ∷ ns) (n ∷ patch_under ns p at bytes)) q ≡ bytes_under (n ∷ ns) q) [
+    elim (bytes_eq n.path p) as (λ b. bytes_eq n.path p ≡ b → bytes_under (cond b (record n { bytes = patch_at n.bytes at bytes } ∷ ns) (n ∷ patch_under ns p at bytes)) q ≡ bytes_under (n ∷ ns) q) [
       | true ↦ λ e.
           let is = (bytes_eq-Decides n.path p).0 e in
           let other = bytes_eq_other n.path q (λ h. ne (sym h ∙ is)) in
@@ -101,13 +101,13 @@ by_path path device =
     ] refl
 
 -- bytes with others in their place
-pub length-patched : (old : List ℕ) (at : ℕ) (bytes : List ℕ) → at + length bytes ≤ length old → length (patched old at bytes) ≡ length old
+pub length-patched : (old : List ℕ) (at : ℕ) (bytes : List ℕ) → at + length bytes ≤ length old → length (patch_at old at bytes) ≡ length old
 length-patched old at bytes le = simp (length-append, length-take, length-drop) (omega arith)
 
 lt_or_le : (i n : ℕ) → (i < n) ⊎ (n ≤ i)
 lt_or_le i n = grind (arith, nat_tests)
 
-get-patched : (old : List ℕ) (at : ℕ) (bytes : List ℕ) (i : ℕ) → at + length bytes ≤ length old → (i < at) ⊎ (at + length bytes ≤ i) → get_or (patched old at bytes) i 0 ≡ get_or old i 0
+get-patched : (old : List ℕ) (at : ℕ) (bytes : List ℕ) (i : ℕ) → at + length bytes ≤ length old → (i < at) ⊎ (at + length bytes ≤ i) → get_or (patch_at old at bytes) i 0 ≡ get_or old i 0
 get-patched old at bytes i le (inl before) =
     let front : length (take at old) ≡ at = length-take-le at old (omega arith) in
     get_or_append_left (take at old ++ bytes) (drop (at + length bytes) old) 0 i (omega (arith, front, length-append (take at old) bytes))
@@ -121,15 +121,15 @@ get-patched old at bytes i le (inr behind) =
     ∙ get_or-drop (at + length bytes) old (i - (at + length bytes)) 0
     ∙ ap (λ (k : ℕ). get_or old k 0) whole
 
-pub byte-patched : (old : List ℕ) (at : ℕ) (bytes : List ℕ) (i : ℕ) → at + length bytes ≤ length old → (at ≤ i → i < at + length bytes → ⊥) → slice_get (patched old at bytes) i ≡ slice_get old i
+pub byte-patched : (old : List ℕ) (at : ℕ) (bytes : List ℕ) (i : ℕ) → at + length bytes ≤ length old → (at ≤ i → i < at + length bytes → ⊥) → slice_get (patch_at old at bytes) i ≡ slice_get old i
 byte-patched old at bytes i le free =
     let place : (i < at) ⊎ (at + length bytes ≤ i) =
     ⊎_elim (λ lt. inl lt) (λ ge. ⊎_elim (λ lt. absurd (free ge lt)) (λ past. inr past) (lt_or_le i (at + length bytes))) (lt_or_le i at) in
     let same = get-patched old at bytes i le place in
     let long = length-patched old at bytes le in
     ⊎_elim
-    (λ lt. slice_get-get_or (patched old at bytes) i 0 (subst (λ (k : ℕ). i < k) (sym long) lt) ∙ ap (λ (k : ℕ). Some k) same ∙ sym (slice_get-get_or old i 0 lt))
-    (λ past. slice_get_past (patched old at bytes) i (subst (λ (k : ℕ). k ≤ i) (sym long) past) ∙ sym (slice_get_past old i past))
+    (λ lt. slice_get-get_or (patch_at old at bytes) i 0 (subst (λ (k : ℕ). i < k) (sym long) lt) ∙ ap (λ (k : ℕ). Some k) same ∙ sym (slice_get-get_or old i 0 lt))
+    (λ past. slice_get_past (patch_at old at bytes) i (subst (λ (k : ℕ). k ≤ i) (sym long) past) ∙ sym (slice_get_past old i past))
     (lt_or_le i (length old))
 
 pub crash_settled : (w v : World) (p : List ℕ) → Crash w v → ((i : ℕ) → is_in w.pending p i ≡ false) → disk v p ≡ disk w p

@@ -1,8 +1,8 @@
 -- What the calls on a machine leave of its past and its counts, and what they answer.
-use Rattle.std.specs.Prelude.{◌≡◌, ◌≤◌, ◌<◌, ◌+◌, ◌^◌, ℕ, Bool, IsTrue, IfSome, List, [], ◌∷◌, ◌++◌, length, take, drop, Option, Some, None, Result, Ok, Err}
-use Rattle.updater_text.specs.Counts.{Rose}
-use Rattle.updater_text.specs.declared.stops.Fault.{Fault}
-use Rattle.updater_text.specs.declared.stops.Fault.TheVariants as fault
+use Rattle.std.specs.Prelude.{◌≡◌, ◌≤◌, ◌<◌, ◌+◌, ◌^◌, ◌||◌, ℕ, Bool, nat_lt, IsTrue, IfSome, List, [], ◌∷◌, ◌++◌, length, take, drop, Option, Some, None, Result, Ok, Err}
+use Rattle.updater_text.specs.Counts.{CountRose}
+use Rattle.machine.specs.declared.stops.Fault.{Fault}
+use Rattle.machine.specs.declared.stops.Fault.TheVariants as fault
 use Rattle.machine.specs.declared.calls.CallStop.{CallStop}
 use Rattle.machine.specs.declared.calls.CallStop.TheVariants.{Failed, NoMemory}
 use Rattle.machine.specs.declared.calls.ReadStop.{ReadStop}
@@ -11,49 +11,64 @@ use Rattle.machine.specs.declared.calls.RunStop.{RunStop}
 use Rattle.machine.specs.declared.calls.RunStop.TheVariants as run
 use Rattle.machine.specs.declared.world.Child.{Child}
 use Rattle.machine.specs.declared.world.Exit.{Exit}
-use Rattle.machine.specs.World.{Holds}
-use Rattle.machine.specs.Past.{Call, File, Run, Done, Broken, Overlong, Past, now, Did}
+use Rattle.machine.specs.World.{HoldsUpTo}
+use Rattle.machine.specs.Past.{Call, File, Run, Done, Broken, Overlong, Past, world_now, IsCall}
 
 -- the past after a call; a call that wanted memory is no moment of it
 abbrev pub Ends : {T : Type 0} → Past → Past → Call → Result T CallStop → Type 0
-Ends old new call (Ok x) = Did old new call Done
-Ends old new call (Err Failed) = Did old new call Broken
+Ends old new call (Ok x) = IsCall old new call Done
+Ends old new call (Err Failed) = IsCall old new call Broken
 Ends old new call (Err NoMemory) = new ≡ old
 
 -- the same after the reading of a whole file
 abbrev pub FileEnds : {T : Type 0} → Past → Past → List ℕ → Result T ReadStop → Type 0
-FileEnds old new path (Ok x) = Did old new (File path) Done
-FileEnds old new path (Err read.Failed) = Did old new (File path) Broken
-FileEnds old new path (Err (read.TooLong n)) = Did old new (File path) Overlong
+FileEnds old new path (Ok x) = IsCall old new (File path) Done
+FileEnds old new path (Err read.Failed) = IsCall old new (File path) Broken
+FileEnds old new path (Err (read.TooLong n)) = IsCall old new (File path) Overlong
 FileEnds old new path (Err read.NoMemory) = new ≡ old
 
 -- the same after the run of a child, which stands last in the runs with its end
 abbrev pub RunEnds : Past → Past → Child → Result Exit RunStop → Type 0
-RunEnds old new child (Ok exit) = Did old new (Run child) Done × ((now new).runs ≡ (now old).runs ++ record { child = child; exit = exit } ∷ [])
-RunEnds old new child (Err run.Failed) = Did old new (Run child) Broken
+RunEnds old new child (Ok exit) = IsCall old new (Run child) Done × ((world_now new).runs ≡ (world_now old).runs ++ record { child = child; exit = exit } ∷ [])
+RunEnds old new child (Err run.Failed) = IsCall old new (Run child) Broken
 RunEnds old new child (Err run.NoMemory) = new ≡ old
 
 -- counts never fall; a call fails only where that of faults rose, and wants memory only where that of wants rose
 abbrev pub Counted : {T : Type 0} → ℕ → ℕ → ℕ → ℕ → Result T CallStop → Type 0
 Counted faults faults' wants wants' (Ok x) = (faults ≤ faults') × (wants ≤ wants')
-Counted faults faults' wants wants' (Err Failed) = Rose faults faults' × (wants ≤ wants')
-Counted faults faults' wants wants' (Err NoMemory) = (faults ≤ faults') × Rose wants wants'
+Counted faults faults' wants wants' (Err Failed) = CountRose faults faults' × (wants ≤ wants')
+Counted faults faults' wants wants' (Err NoMemory) = (faults ≤ faults') × CountRose wants wants'
 
 abbrev pub FileCounted : {T : Type 0} → ℕ → ℕ → ℕ → ℕ → Result T ReadStop → Type 0
 FileCounted faults faults' wants wants' (Ok x) = (faults ≤ faults') × (wants ≤ wants')
 FileCounted faults faults' wants wants' (Err (read.TooLong n)) = (faults ≤ faults') × (wants ≤ wants')
-FileCounted faults faults' wants wants' (Err read.Failed) = Rose faults faults' × (wants ≤ wants')
-FileCounted faults faults' wants wants' (Err read.NoMemory) = (faults ≤ faults') × Rose wants wants'
+FileCounted faults faults' wants wants' (Err read.Failed) = CountRose faults faults' × (wants ≤ wants')
+FileCounted faults faults' wants wants' (Err read.NoMemory) = (faults ≤ faults') × CountRose wants wants'
 
 abbrev pub RunCounted : {T : Type 0} → ℕ → ℕ → ℕ → ℕ → Result T RunStop → Type 0
 RunCounted faults faults' wants wants' (Ok x) = (faults ≤ faults') × (wants ≤ wants')
-RunCounted faults faults' wants wants' (Err run.Failed) = Rose faults faults' × (wants ≤ wants')
-RunCounted faults faults' wants wants' (Err run.NoMemory) = (faults ≤ faults') × Rose wants wants'
+RunCounted faults faults' wants wants' (Err run.Failed) = CountRose faults faults' × (wants ≤ wants')
+RunCounted faults faults' wants wants' (Err run.NoMemory) = (faults ≤ faults') × CountRose wants wants'
 
--- of each stream of a child so much is kept at most
+-- of each stream of a child so many bytes are kept at most
+abbrev pub kept_output : ℕ
+kept_output = 65536
+
+-- there was more in the stream than is kept of it
+abbrev pub is_cut : List ℕ → Bool
+is_cut stream = nat_lt kept_output (length stream)
+
+-- a child put these bytes out on its two streams: the front of each is kept, and `cut` says whether there was more in one
+pub record KeepsFronts (out err : List ℕ) (exit : Exit) : Type 0 where
+  pub out_kept : exit.out ≡ take kept_output out
+  pub err_kept : exit.err ≡ take kept_output err
+  pub cut_is : exit.cut ≡ (is_cut out || is_cut err)
+
+-- whatever it put out
 pub record IsKept (exit : Exit) : Type 0 where
-  pub out : length exit.out ≤ 65536
-  pub err : length exit.err ≤ 65536
+  pub out : List ℕ
+  pub err : List ℕ
+  pub fronts : KeepsFronts out err exit
 
 -- the file's bytes, or None for no file; too long exactly where it is longer than the limit
 abbrev pub Found : Option (List ℕ) → ℕ → Result (Option (List ℕ)) ReadStop → Type 0
@@ -96,8 +111,8 @@ pub record ReadFull (tells : Bool) (there : List ℕ) (at : ℕ) (before after :
   pub full : IsTrue tells → count < length before → length there ≤ at + count
 
 -- a write is made where the disk has room for it up to this end
-pub record HasRoom (tells : Bool) (past : Past) (path : List ℕ) (end : ℕ) : Type 0 where
-  pub room : IsTrue tells → Holds (now past) path end
+pub record WriteFits (tells : Bool) (past : Past) (path : List ℕ) (end : ℕ) : Type 0 where
+  pub room : IsTrue tells → HoldsUpTo (world_now past) path end
 
 -- the kind of a call that ended so
 abbrev pub call_fault : {T : Type 0} → Fault → Result T CallStop → Option Fault

@@ -1,11 +1,14 @@
 -- The past of a machine: its calls in order, each with its end and the world after it.
-use Rattle.std.specs.Prelude.{◌≡◌, ◌≤◌, ◌⊎◌, ℕ, ℤ, Bool, IsTrue, List, [], ◌∷◌, ◌++◌, length, take, drop, Option, Some, None}
-use Rattle.updater_text.specs.declared.stops.Fault.{Fault}
-use Rattle.updater_text.specs.declared.stops.Fault.TheVariants as fault
+use Rattle.std.specs.Prelude.{◌≡◌, ◌≤◌, ◌⊎◌, ◌-◌, ℕ, ℤ, Bool, IsTrue, List, [], ◌∷◌, ◌++◌, length, take, drop, Option, Some, None}
+use Rattle.boot_model.specs.declared.boot_kind.BootKind.{BootKind}
+use Rattle.boot_model.specs.declared.boot_kind.BootKind.TheVariants.{Noop}
+use Rattle.machine.specs.declared.stops.Fault.{Fault}
+use Rattle.machine.specs.declared.stops.Fault.TheVariants as fault
+use Rattle.std.specs.FinMap as map
 use Rattle.machine.specs.declared.world.Child.{Child}
 use Rattle.machine.specs.declared.world.Exit.{Exit}
 use Rattle.machine.specs.declared.world.World.{World}
-use Rattle.machine.specs.World.{written, synced, replaced, fetching}
+use Rattle.machine.specs.World.{with_write, with_sync, with_file, with_fetched}
 use Rattle.machine.specs.Crash.{Crash}
 use Rattle.machine.specs.Spares.{Spared}
 
@@ -39,28 +42,29 @@ kind_of (Run child) = fault.Run
 kind_of (Clock seconds) = fault.Clock
 
 -- v is w with a range of the disk written, with any bytes
-abbrev pub Scribbled : List ℕ → ℕ → ℕ → World → World → Type 0
-Scribbled path at count w v = (bytes : List ℕ) × (length bytes ≡ count) × (v ≡ written w path at bytes)
+abbrev pub ArbitraryWrite : List ℕ → ℕ → ℕ → World → World → Type 0
+ArbitraryWrite path at count w v = (bytes : List ℕ) × (length bytes ≡ count) × (v ≡ with_write w path at bytes)
 
 -- v is w after the child: it left alone what it must, and is the last of the runs
-abbrev pub Ran : Child → Exit → World → World → Type 0
-Ran child exit w v = Spared child w v × (v.runs ≡ w.runs ++ record { child = child; exit = exit } ∷ [])
+abbrev pub IsRun : Child → Exit → World → World → Type 0
+IsRun child exit w v = Spared child w v × (v.runs ≡ w.runs ++ record { child = child; exit = exit } ∷ [])
 
 -- the world v after a call that began in w
 abbrev pub After : Call → End → World → World → Type 0
-After (Read path count) Done w v = v ≡ fetching w path count
-After (Write path at count) Done w v = Scribbled path at count w v
-After (Write path at count) Broken w v = (v ≡ w) ⊎ Scribbled path at count w v
-After (Sync path) Done w v = v ≡ synced w path
-After (Replace path bytes) Done w v = v ≡ replaced w path bytes
-After (Replace path bytes) Broken w v = (v ≡ w) ⊎ (v ≡ replaced w path bytes)
-After (Run child) Done w v = (exit : Exit) × Ran child exit w v
+After (Read path count) Done w v = v ≡ with_fetched w path count
+After (Write path at count) Done w v = ArbitraryWrite path at count w v
+After (Write path at count) Broken w v = (v ≡ w) ⊎ ArbitraryWrite path at count w v
+After (Sync path) Done w v = v ≡ with_sync w path
+After (Replace path bytes) Done w v = v ≡ with_file w path bytes
+After (Replace path bytes) Broken w v = (v ≡ w) ⊎ (v ≡ with_file w path bytes)
+After (Run child) Done w v = (exit : Exit) × IsRun child exit w v
+After (Run child) Broken w v = Spared child w v × (v.runs ≡ w.runs)
 After call end w v = v ≡ w
 
 -- a world u in which the power may stop inside a call that began in w
 abbrev pub Inside : Call → World → World → Type 0
-Inside (Write path at count) w u = Scribbled path at count w u
-Inside (Replace path bytes) w u = (u ≡ w) ⊎ (u ≡ replaced w path bytes)
+Inside (Write path at count) w u = ArbitraryWrite path at count w u
+Inside (Replace path bytes) w u = (u ≡ w) ⊎ (u ≡ with_file w path bytes)
 Inside (Run child) w u = Spared child w u × (u.runs ≡ w.runs)
 Inside call w u = u ≡ w
 
@@ -69,7 +73,9 @@ pub record Moment : Type 0 where
   pub end : End
   pub after : World
 
+-- the boot loader whose variables the world has, the world at the start, and the calls since
 pub record Past : Type 0 where
+  pub boot : BootKind
   pub first : World
   pub moments : List Moment
 
@@ -79,43 +85,43 @@ world_after w [] = w
 world_after w (m ∷ ms) = world_after m.after ms
 
 -- the world as it is now
-abbrev pub now : Past → World
-now p = world_after p.first p.moments
+abbrev pub world_now : Past → World
+world_now p = world_after p.first p.moments
 
 -- the past with these moments more
-abbrev pub more : Past → List Moment → Past
-more p ms = record p { moments = p.moments ++ ms }
+abbrev pub with_moments : Past → List Moment → Past
+with_moments p ms = record p { moments = p.moments ++ ms }
 
 -- the moments of new that are not of old
-abbrev pub made : Past → Past → List Moment
-made old new = drop (length old.moments) new.moments
+abbrev pub moments_since : Past → Past → List Moment
+moments_since old new = drop (length old.moments) new.moments
 
 -- new goes on from old, and changes no earlier moment
 abbrev pub Grows : Past → Past → Type 0
-Grows old new = new ≡ more old (made old new)
+Grows old new = new ≡ with_moments old (moments_since old new)
 
 -- u was the world at the begin or after one of these moments, or inside one of their calls
-abbrev pub WasIn : World → List Moment → World → Type 0
-WasIn w [] u = u ≡ w
-WasIn w (m ∷ ms) u = (u ≡ w) ⊎ (Inside m.call w u ⊎ WasIn m.after ms u)
+abbrev pub WorldAmong : World → List Moment → World → Type 0
+WorldAmong w [] u = u ≡ w
+WorldAmong w (m ∷ ms) u = (u ≡ w) ⊎ (Inside m.call w u ⊎ WorldAmong m.after ms u)
 
 -- u was the world at some moment since old, or inside a call made since
-abbrev pub Was : Past → Past → World → Type 0
-Was old new u = WasIn (now old) (made old new) u
+abbrev pub WorldSince : Past → Past → World → Type 0
+WorldSince old new u = WorldAmong (world_now old) (moments_since old new) u
 
 -- a stop of the power since old may have left v
 abbrev pub Held : Past → Past → World → Type 0
-Held old new v = (u : World) × Was old new u × Crash u v
+Held old new v = (u : World) × WorldSince old new u × Crash u v
 
 -- new goes on from old, and each world since, those inside the calls too, has P
 pub record Always (old new : Past) (P : World → Type 0) : Type 0 where
   pub grows : Grows old new
-  pub each : (u : World) → Was old new u → P u
+  pub each : (u : World) → WorldSince old new u → P u
 
 -- new is old and this call
-pub record Did (old new : Past) (call : Call) (end : End) : Type 0 where
-  pub grows : new ≡ more old (record { call = call; end = end; after = now new } ∷ [])
-  pub after : After call end (now old) (now new)
+pub record IsCall (old new : Past) (call : Call) (end : End) : Type 0 where
+  pub grows : new ≡ with_moments old (record { call = call; end = end; after = world_now new } ∷ [])
+  pub after : After call end (world_now old) (world_now new)
 
 -- a call that failed, and what is said where it did not
 abbrev pub failed_or : End → Fault → Option Fault → Option Fault
@@ -128,25 +134,27 @@ abbrev pub first_failed : List Moment → Option Fault
 first_failed [] = None
 first_failed (m ∷ ms) = failed_or m.end (kind_of m.call) (first_failed ms)
 
--- the kind of the last of these calls, where that one failed
-abbrev pub last_failed : List Moment → Option Fault
-last_failed [] = None
-last_failed (m ∷ []) = failed_or m.end (kind_of m.call) None
-last_failed (m ∷ n ∷ ms) = last_failed (n ∷ ms)
-
 -- the kind of the first call since old that failed
 abbrev pub failed_since : Past → Past → Option Fault
-failed_since old new = first_failed (made old new)
+failed_since old new = first_failed (moments_since old new)
+
+-- all but the last
+abbrev pub but_last : {A : Type 0} → List A → List A
+but_last xs = take (length xs - 1) xs
 
 -- where told: no call since old failed; or the last one alone did, and is of this kind
 pub record Fails (tells : Bool) (old new : Past) (kind : Option Fault) : Type 0 where
   pub grows : IsTrue tells → Grows old new
   pub first : IsTrue tells → failed_since old new ≡ kind
-  pub last : IsTrue tells → last_failed (made old new) ≡ kind
+  pub before : IsTrue tells → first_failed (but_last (moments_since old new)) ≡ None
 
--- the past of a machine that tells none
-abbrev pub nothing_told : World → Past
-nothing_told w = record { first = w; moments = [] }
+-- the past of a machine that tells none: it means nothing
+abbrev pub nothing_told : Past
+nothing_told = record {
+  boot = Noop;
+  first = record { disks = []; pending = []; writes = []; files = []; vars = map.empty; runs = []; fetched = 0 };
+  moments = [];
+}
 
 -- the past as it was after t moments
 abbrev pub until : ℕ → Past → Past

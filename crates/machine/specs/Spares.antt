@@ -1,6 +1,7 @@
 -- What a child must leave alone.
-use Rattle.std.specs.Prelude.{◌≡◌, ◌==◌, ◌&&◌, ◌||◌, ℕ, Bool, true, false, not, IsTrue, List, length, filter, bytes_eq, codes, slice_index, nat_eq}
-use Rattle.std.specs.List.{list_any, starts_with}
+use Rattle.std.specs.Prelude.{◌≡◌, ◌&&◌, ◌||◌, ℕ, Bool, true, false, not, IsTrue, List, filter, bytes_eq, codes}
+use Rattle.std.specs.List.{list_any}
+use Rattle.updater_text.specs.Paths.{is_within}
 use Rattle.machine.specs.declared.world.Child.{Child}
 use Rattle.machine.specs.declared.world.ChildClass.{ChildClass}
 use Rattle.machine.specs.declared.world.ChildClass.TheVariants.{Boot, Helper, Handler, Hook}
@@ -14,10 +15,6 @@ is_boot Boot = true
 is_boot Helper = false
 is_boot Handler = false
 is_boot Hook = false
-
--- the path is this one, or lies below it
-abbrev pub is_within : List ℕ → List ℕ → Bool
-is_within directory path = bytes_eq path directory || (starts_with nat_eq path directory && (slice_index path (length directory) == 47))
 
 -- the disk must stay as it is; a boot program leaves every disk
 abbrev pub spares_disk : Child → List ℕ → Bool

@@ -1,9 +1,9 @@
 -- What a call over a machine answers, and why it stops.
 use Rattle.std.specs.Prelude.{◌≡◌, ◌≤◌, ℕ, Option, Some, None, Result, Ok, Err}
-use Rattle.updater_text.specs.Counts.{Rose}
-use Rattle.updater_text.specs.declared.stops.Fault.{Fault}
-use Rattle.updater_text.specs.declared.stops.Stop.{Stop}
-use Rattle.updater_text.specs.declared.stops.Stop.TheVariants.{Refused, Outside, NoMemory}
+use Rattle.updater_text.specs.Counts.{CountRose}
+use Rattle.machine.specs.declared.stops.Fault.{Fault}
+use Rattle.machine.specs.declared.stops.Stop.{Stop}
+use Rattle.machine.specs.declared.stops.Stop.TheVariants.{Refused, Outside, NoMemory}
 
 -- the answer is this one, unless a call failed or memory was wanting
 abbrev pub Settles : {T R : Type 0} → Result T (Stop R) → Result T R → Type 0
@@ -23,5 +23,5 @@ stop_fault (Err NoMemory) = None
 abbrev pub StopCounted : {T R : Type 0} → ℕ → ℕ → ℕ → ℕ → Result T (Stop R) → Type 0
 StopCounted faults faults' wants wants' (Ok x) = (faults ≤ faults') × (wants ≤ wants')
 StopCounted faults faults' wants wants' (Err (Refused r)) = (faults ≤ faults') × (wants ≤ wants')
-StopCounted faults faults' wants wants' (Err (Outside kind)) = Rose faults faults' × (wants ≤ wants')
+StopCounted faults faults' wants wants' (Err (Outside kind)) = CountRose faults faults' × (wants ≤ wants')
 StopCounted faults faults' wants wants' (Err NoMemory) = (faults ≤ faults') × (wants ≤ wants')

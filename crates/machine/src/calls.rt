@@ -1,9 +1,9 @@
 ghost use Rattle.std.specs.Prelude.{◌≡◌, ◌+◌, ℕ, Bool, false, pos, length, IsTrue, IfOk};
 ghost use Rattle.std.specs.Result.{result_unwrap_or};
-ghost use Rattle.machine.specs.World.{file, readable, size_of, written};
+ghost use Rattle.machine.specs.World.{file, readable, length_under, with_write};
 ghost use Rattle.machine.specs.Spares.{is_boot};
-ghost use Rattle.machine.specs.Past.{Clock, Past, Read, Replace, Size, Sync, Write, now};
-ghost use Rattle.machine.specs.Calls.{Counted, Ends, FileCounted, FileEnds, HasRoom, IsKept, IsLong, ReadSome, ReadsFile, RunCounted, RunEnds};
+ghost use Rattle.machine.specs.Past.{Clock, Past, Read, Replace, Size, Sync, Write, world_now};
+ghost use Rattle.machine.specs.Calls.{Counted, Ends, FileCounted, FileEnds, WriteFits, IsKept, IsLong, ReadSome, ReadsFile, RunCounted, RunEnds};
 
 use crate::{Child, Exit};
 use std::alloc::Global;
@@ -59,28 +59,28 @@ pub trait Machine {
     ) -> Result<Option<Items<u8>>, ReadStop>
         ensures past { IsTrue tells → FileEnds (past self.old) (past self.new) path.now result }
         ensures counts { FileCounted (faults self.old) (faults self.new) (wants self.old) (wants self.new) result }
-        ensures answer { ReadsFile tells (file (now (past self.old)) path.now) limit result };
+        ensures answer { ReadsFile tells (file (world_now (past self.old)) path.now) limit result };
 
     /// The length in bytes of the disk or, where `disk` is false, of the disk or file; None where
     /// there is none. It is below 2^63.
     fn size(&mut self, path: &str, disk: bool) -> Result<Option<u64>, CallStop>
         ensures past { IsTrue tells → Ends (past self.old) (past self.new) (Size path.now) result }
         ensures counts { Counted (faults self.old) (faults self.new) (wants self.old) (wants self.new) result }
-        ensures answer { IfOk result (IsLong tells (size_of (now (past self.old)) path.now disk)) };
+        ensures answer { IfOk result (IsLong tells (length_under (world_now (past self.old)) path.now disk)) };
 
     /// Reads bytes of a disk or file from byte `at` on into the front of `into`, and answers how
     /// many: 0 only at the end or for an empty `into`. A path that names nothing counts as empty.
     fn read_at(&mut self, path: &str, at: u64, into: &mut [u8]) -> Result<usize, CallStop>
         ensures past { IsTrue tells → Ends (past self.old) (past self.new) (Read path.now (result_unwrap_or result 0)) result }
         ensures counts { Counted (faults self.old) (faults self.new) (wants self.old) (wants self.new) result }
-        ensures answer { IfOk result (ReadSome tells (readable (now (past self.old)) path.now) at into.old into.new) };
+        ensures answer { IfOk result (ReadSome tells (readable (world_now (past self.old)) path.now) at into.old into.new) };
 
     /// Writes the bytes to a disk from byte `at` on. They are pending until a `sync`.
     fn write_at(&mut self, path: &str, at: u64, from: &[u8]) -> Result<(), CallStop>
-        requires { HasRoom tells (past self.old) path.now (at + length from.now) }
+        requires { WriteFits tells (past self.old) path.now (at + length from.now) }
         ensures past { IsTrue tells → Ends (past self.old) (past self.new) (Write path.now at (length from.now)) result }
         ensures counts { Counted (faults self.old) (faults self.new) (wants self.old) (wants self.new) result }
-        ensures answer { IsTrue tells → IfOk result (λ _. now (past self.new) ≡ written (now (past self.old)) path.now at from.now) };
+        ensures answer { IsTrue tells → IfOk result (λ _. world_now (past self.new) ≡ with_write (world_now (past self.old)) path.now at from.now) };
 
     /// Makes what was written to a disk last through a crash.
     fn sync(&mut self, path: &str) -> Result<(), CallStop>
@@ -94,8 +94,9 @@ pub trait Machine {
         ensures counts { Counted (faults self.old) (faults self.new) (wants self.old) (wants self.new) result };
 
     /// Runs a program to its end, and keeps the first 65,536 bytes of what it puts out on each
-    /// stream. It leaves alone what it must spare. `Failed` tells that it gave no end: a machine that
-    /// tells its world has changed nothing then; over a real system it may have been started.
+    /// stream; `cut` of its exit tells whether there was more. It leaves alone what it must spare.
+    /// `Failed` tells that it gave no end: it may have been started all the same, and killed in the
+    /// middle, so what it need not spare may have changed; it does not stand in the runs.
     fn run(&mut self, alloc: Global, child: &Child) -> Result<Exit, RunStop>
         requires { is_boot child.now.class ≡ false }
         ensures past { IsTrue tells → RunEnds (past self.old) (past self.new) child.now result }

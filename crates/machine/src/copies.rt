@@ -4,23 +4,23 @@ use crate::{Child, EnvVar, Exit, Named, RunNote, Span, Spares, World};
 use std::alloc::Global;
 use updater_text::{Items, NoMemory, Text};
 
-/// What is copied by taking memory.
-pub trait Copied {
+/// What can be copied where memory suffices.
+pub trait TryClone {
     /// The same once more.
-    fn copied(&self, alloc: Global) -> Result<Self, NoMemory>
+    fn try_clone(&self, alloc: Global) -> Result<Self, NoMemory>
     where
         Self: Sized,
         ensures { IfOk result (λ copy. copy ≡ self.now) };
 }
 
 /// The same items once more.
-pub fn copy_items<T: Copied + Drop>(alloc: Global, items: &Items<T>) -> Result<Items<T>, NoMemory>
+pub fn copy_items<T: TryClone + Drop>(alloc: Global, items: &Items<T>) -> Result<Items<T>, NoMemory>
     ensures { IfOk result (λ copy. copy ≡ items.now) }
 {
     let mut copy = Items::new(alloc);
     let slice = items.as_slice();
     for item in slice {
-        copy.push(item.copied(alloc)?)?;
+        copy.push(item.try_clone(alloc)?)?;
     }
     Ok(copy)
 }
@@ -32,14 +32,14 @@ pub fn copy_bytes(alloc: Global, bytes: &[u8]) -> Result<Items<u8>, NoMemory>
     Ok(Items::from_vec(Vec::from_slice(alloc, bytes)?))
 }
 
-impl Copied for Text {
-    fn copied(&self, alloc: Global) -> Result<Text, NoMemory> {
+impl TryClone for Text {
+    fn try_clone(&self, alloc: Global) -> Result<Text, NoMemory> {
         self.copy(alloc)
     }
 }
 
-impl Copied for Named {
-    fn copied(&self, alloc: Global) -> Result<Named, NoMemory> {
+impl TryClone for Named {
+    fn try_clone(&self, alloc: Global) -> Result<Named, NoMemory> {
         Ok(Named {
             path: self.path.copy(alloc)?,
             bytes: copy_bytes(alloc, self.bytes.as_slice())?,
@@ -47,8 +47,8 @@ impl Copied for Named {
     }
 }
 
-impl Copied for Span {
-    fn copied(&self, alloc: Global) -> Result<Span, NoMemory> {
+impl TryClone for Span {
+    fn try_clone(&self, alloc: Global) -> Result<Span, NoMemory> {
         Ok(Span {
             path: self.path.copy(alloc)?,
             at: self.at,
@@ -57,8 +57,8 @@ impl Copied for Span {
     }
 }
 
-impl Copied for EnvVar {
-    fn copied(&self, alloc: Global) -> Result<EnvVar, NoMemory> {
+impl TryClone for EnvVar {
+    fn try_clone(&self, alloc: Global) -> Result<EnvVar, NoMemory> {
         Ok(EnvVar {
             name: self.name.copy(alloc)?,
             value: self.value.copy(alloc)?,
@@ -66,8 +66,8 @@ impl Copied for EnvVar {
     }
 }
 
-impl Copied for Spares {
-    fn copied(&self, alloc: Global) -> Result<Spares, NoMemory> {
+impl TryClone for Spares {
+    fn try_clone(&self, alloc: Global) -> Result<Spares, NoMemory> {
         Ok(Spares {
             disks: copy_items(alloc, &self.disks)?,
             files: copy_items(alloc, &self.files)?,
@@ -76,20 +76,20 @@ impl Copied for Spares {
     }
 }
 
-impl Copied for Child {
-    fn copied(&self, alloc: Global) -> Result<Child, NoMemory> {
+impl TryClone for Child {
+    fn try_clone(&self, alloc: Global) -> Result<Child, NoMemory> {
         Ok(Child {
             class: self.class,
             program: self.program.copy(alloc)?,
             args: copy_items(alloc, &self.args)?,
             env: copy_items(alloc, &self.env)?,
-            spares: self.spares.copied(alloc)?,
+            spares: self.spares.try_clone(alloc)?,
         })
     }
 }
 
-impl Copied for Exit {
-    fn copied(&self, alloc: Global) -> Result<Exit, NoMemory> {
+impl TryClone for Exit {
+    fn try_clone(&self, alloc: Global) -> Result<Exit, NoMemory> {
         Ok(Exit {
             ended: self.ended,
             out: copy_bytes(alloc, self.out.as_slice())?,
@@ -99,17 +99,17 @@ impl Copied for Exit {
     }
 }
 
-impl Copied for RunNote {
-    fn copied(&self, alloc: Global) -> Result<RunNote, NoMemory> {
+impl TryClone for RunNote {
+    fn try_clone(&self, alloc: Global) -> Result<RunNote, NoMemory> {
         Ok(RunNote {
-            child: self.child.copied(alloc)?,
-            exit: self.exit.copied(alloc)?,
+            child: self.child.try_clone(alloc)?,
+            exit: self.exit.try_clone(alloc)?,
         })
     }
 }
 
-impl Copied for World {
-    fn copied(&self, alloc: Global) -> Result<World, NoMemory> {
+impl TryClone for World {
+    fn try_clone(&self, alloc: Global) -> Result<World, NoMemory> {
         Ok(World {
             disks: copy_items(alloc, &self.disks)?,
             pending: copy_items(alloc, &self.pending)?,

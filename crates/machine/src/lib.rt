@@ -6,10 +6,14 @@ mod calls;
 mod copies;
 mod law;
 mod reads;
+mod stops;
 mod world;
 
 pub use calls::{CallStop, Machine, ReadStop, RunStop};
-pub use copies::{Copied, copy_bytes, copy_items};
+pub use copies::{TryClone, copy_bytes, copy_items};
 pub use law::held_joins;
 pub use reads::fill;
-pub use world::{Child, ChildClass, Ended, EnvVar, Exit, Named, RunNote, Span, Spares, World};
+pub use stops::{Fault, Stop};
+pub use world::{
+    Child, ChildClass, Ended, EnvVar, Exit, KEPT_OUTPUT, Named, RunNote, Span, Spares, World,
+};

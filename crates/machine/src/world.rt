@@ -58,7 +58,11 @@ pub enum Ended {
     Signal,
 }
 
-/// The end of a child and what it put out; `cut` tells that some of that was not kept.
+/// How many bytes are kept of each stream of a child.
+pub const KEPT_OUTPUT: usize = 65_536;
+
+/// The end of a child and the front of what it put out on each stream; `cut` tells whether there was
+/// more in one of them.
 #[derive(Drop)]
 pub struct Exit {
     pub ended: Ended,

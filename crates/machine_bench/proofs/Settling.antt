@@ -14,18 +14,18 @@ use Rattle.machine.specs.declared.world.World.{World}
 use Rattle.undo_log.specs.declared.notes.Whole.{Whole}
 use Rattle.undo_log.specs.declared.notes.Whole.TheVariants.{Bytes, TooLong}
 use Rattle.undo_log.specs.declared.log.UndoLog.{UndoLog}
-use Rattle.machine.specs.Past.{Call, Clock, File, Read, Run, End, Done, Broken, Did, now}
+use Rattle.machine.specs.Past.{Call, Clock, File, Read, Run, End, Done, Broken, IsCall, world_now}
 use Rattle.machine.specs.Calls.{Ends, FileEnds, ReadsFile, RunEnds}
 use Rattle.undo_log.specs.Whole.{WholeFound, end_whole}
-use Rattle.undo_log.specs.Logged.{Kept, Noted, end_if, told_by}
-use Rattle.machine_bench.specs.Numbered.{Settled}
-use Rattle.undo_log.proofs.Undoing.{did_noted, kept_told, now-past_of}
+use Rattle.undo_log.specs.Logged.{SameLog, NotesCall, end_if, past_of_log}
+use Rattle.machine_bench.specs.Numbered.{IsAnswer}
+use Rattle.undo_log.proofs.Undoing.{did_noted, same_past, now-past_of}
 
 same_ok : {T E : Type 0} (x y : T) → ◌≡◌ {A = Result T E} (Ok x) (Ok y) → x ≡ y
 same_ok x y e = cc
 
 -- what is true of a value that was noted
-pub settled_value : {T E : Type 0} (fails : Bool) (faults faults' wants wants' : ℕ) (noted : Result T E) (result : Result T CallStop) (P : T → Type 0) → Settled noted fails faults faults' wants wants' result → (fails ≡ false → IfOk noted P) → IfOk result P
+pub settled_value : {T E : Type 0} (fails : Bool) (faults faults' wants wants' : ℕ) (noted : Result T E) (result : Result T CallStop) (P : T → Type 0) → IsAnswer noted fails faults faults' wants wants' result → (fails ≡ false → IfOk noted P) → IfOk result P
 settled_value fails faults faults' wants wants' (Ok y) (Ok x) P s ok = subst P (same_ok y x s.0) (ok s.1)
 settled_value {E = E} fails faults faults' wants wants' (Err e) (Ok x) P s ok = let bad : Err e ≡ Ok x = s.0 in cc
 settled_value fails faults faults' wants wants' noted (Err stop) P s ok = tt
@@ -37,17 +37,17 @@ run_answer (Err Failed) = Err run.Failed
 run_answer (Err NoMemory) = Err run.NoMemory
 
 module _ (old new last : UndoLog) (fails : Bool) (faults faults' wants wants' : ℕ) (is_last : last ≡ new) where
-  done_now : (call : Call) (end : End) → Noted old new call end → Did (told_by old) (told_by last) call end
-  done_now call end h = subst (λ (log : UndoLog). Did (told_by old) (told_by log) call end) (sym is_last) (did_noted old new call end h)
+  done_now : (call : Call) (end : End) → NotesCall old new call end → IsCall (past_of_log old) (past_of_log last) call end
+  done_now call end h = subst (λ (log : UndoLog). IsCall (past_of_log old) (past_of_log log) call end) (sym is_last) (did_noted old new call end h)
 
-  kept_now : Kept old new → told_by last ≡ told_by old
-  kept_now h = ap (λ (log : UndoLog). told_by log) is_last ∙ kept_told old new h
+  kept_now : SameLog old new → past_of_log last ≡ past_of_log old
+  kept_now h = ap (λ (log : UndoLog). past_of_log log) is_last ∙ same_past old new h
 
-  ended : (call : Call) (b : Bool) → fails ≡ b → Noted old new call (end_if fails) → Did (told_by old) (told_by last) call (end_if b)
-  ended call b is h = done_now call (end_if b) (subst (λ (c : Bool). Noted old new call (end_if c)) is h)
+  ended : (call : Call) (b : Bool) → fails ≡ b → NotesCall old new call (end_if fails) → IsCall (past_of_log old) (past_of_log last) call (end_if b)
+  ended call b is h = done_now call (end_if b) (subst (λ (c : Bool). NotesCall old new call (end_if c)) is h)
 
   -- a call with arguments that are known before
-  pub settled_ends : {T E : Type 0} (call : Call) (noted : Result T E) (result : Result T CallStop) → Settled noted fails faults faults' wants wants' result → OnOk noted (Noted old new call (end_if fails)) → OnErr noted (Kept old new) → Ends (told_by old) (told_by last) call result
+  pub settled_ends : {T E : Type 0} (call : Call) (noted : Result T E) (result : Result T CallStop) → IsAnswer noted fails faults faults' wants wants' result → OnOk noted (NotesCall old new call (end_if fails)) → OnErr noted (SameLog old new) → Ends (past_of_log old) (past_of_log last) call result
   settled_ends call (Ok y) (Ok x) s ok err = ended call false s.1 ok
   settled_ends call (Ok y) (Err Failed) s ok err = ended call true s.1 ok
   settled_ends call (Ok y) (Err NoMemory) s ok err = let bad : false ≡ true = s.0 in cc
@@ -56,19 +56,19 @@ module _ (old new last : UndoLog) (fails : Bool) (faults faults' wants wants' : 
   settled_ends call (Err e) (Err NoMemory) s ok err = kept_now err
 
   -- a read, whose count is known after it
-  pub settled_read : {E : Type 0} (path : List ℕ) (noted : Result ℕ E) (result : Result ℕ CallStop) → Settled noted fails faults faults' wants wants' result → IfOk noted (λ count. Noted old new (Read path count) (end_if fails)) → (fails ≡ true → IfOk noted (λ count. count ≡ 0)) → OnErr noted (Kept old new) → Ends (told_by old) (told_by last) (Read path (result_unwrap_or result 0)) result
+  pub settled_read : {E : Type 0} (path : List ℕ) (noted : Result ℕ E) (result : Result ℕ CallStop) → IsAnswer noted fails faults faults' wants wants' result → IfOk noted (λ count. NotesCall old new (Read path count) (end_if fails)) → (fails ≡ true → IfOk noted (λ count. count ≡ 0)) → OnErr noted (SameLog old new) → Ends (past_of_log old) (past_of_log last) (Read path (result_unwrap_or result 0)) result
   settled_read path (Ok y) (Ok x) s ok failed err =
-      ended (Read path x) false s.1 (subst (λ (count : ℕ). Noted old new (Read path count) (end_if fails)) (same_ok y x s.0) ok)
+      ended (Read path x) false s.1 (subst (λ (count : ℕ). NotesCall old new (Read path count) (end_if fails)) (same_ok y x s.0) ok)
   settled_read path (Ok y) (Err Failed) s ok failed err =
-      ended (Read path 0) true s.1 (subst (λ (count : ℕ). Noted old new (Read path count) (end_if fails)) (failed s.1) ok)
+      ended (Read path 0) true s.1 (subst (λ (count : ℕ). NotesCall old new (Read path count) (end_if fails)) (failed s.1) ok)
   settled_read path (Ok y) (Err NoMemory) s ok failed err = let bad : false ≡ true = s.0 in cc
   settled_read path (Err e) (Ok x) s ok failed err = let bad : Err e ≡ Ok x = s.0 in cc
   settled_read path (Err e) (Err Failed) s ok failed err = let bad : false ≡ true = s.0 in cc
   settled_read path (Err e) (Err NoMemory) s ok failed err = kept_now err
 
   -- a look at the clock, whose seconds are known after it
-  pub settled_clock : {E : Type 0} (noted : Result ℤ E) (result : Result ℤ CallStop) → Settled noted fails faults faults' wants wants' result → (fails ≡ false → IfOk noted (λ said. Noted old new (Clock said) Done)) → (fails ≡ true → OnOk noted (Noted old new (Clock (pos 0)) Broken)) → OnErr noted (Kept old new) → Ends (told_by old) (told_by last) (Clock (result_unwrap_or result (pos 0))) result
-  settled_clock (Ok y) (Ok x) s done failed err = done_now (Clock x) Done (subst (λ (said : ℤ). Noted old new (Clock said) Done) (same_ok y x s.0) (done s.1))
+  pub settled_clock : {E : Type 0} (noted : Result ℤ E) (result : Result ℤ CallStop) → IsAnswer noted fails faults faults' wants wants' result → (fails ≡ false → IfOk noted (λ said. NotesCall old new (Clock said) Done)) → (fails ≡ true → OnOk noted (NotesCall old new (Clock (pos 0)) Broken)) → OnErr noted (SameLog old new) → Ends (past_of_log old) (past_of_log last) (Clock (result_unwrap_or result (pos 0))) result
+  settled_clock (Ok y) (Ok x) s done failed err = done_now (Clock x) Done (subst (λ (said : ℤ). NotesCall old new (Clock said) Done) (same_ok y x s.0) (done s.1))
   settled_clock (Ok y) (Err Failed) s done failed err = done_now (Clock (pos 0)) Broken (failed s.1)
   settled_clock (Ok y) (Err NoMemory) s done failed err = let bad : false ≡ true = s.0 in cc
   settled_clock (Err e) (Ok x) s done failed err = let bad : Err e ≡ Ok x = s.0 in cc
@@ -76,15 +76,15 @@ module _ (old new last : UndoLog) (fails : Bool) (faults faults' wants wants' : 
   settled_clock (Err e) (Err NoMemory) s done failed err = kept_now err
 
   -- the worlds of the two logs
-  runs_now : (child : Child) (exit : Exit) → new.world.runs ≡ old.world.runs ++ record { child = child; exit = exit } ∷ [] → (now (told_by last)).runs ≡ (now (told_by old)).runs ++ record { child = child; exit = exit } ∷ []
+  runs_now : (child : Child) (exit : Exit) → new.world.runs ≡ old.world.runs ++ record { child = child; exit = exit } ∷ [] → (world_now (past_of_log last)).runs ≡ (world_now (past_of_log old)).runs ++ record { child = child; exit = exit } ∷ []
   runs_now child exit h =
-      ap (λ (log : UndoLog). (now (told_by log)).runs) is_last
-      ∙ ap (λ (w : World). w.runs) (now-past_of new.world new.notes.items)
+      ap (λ (log : UndoLog). (world_now (past_of_log log)).runs) is_last
+      ∙ ap (λ (w : World). w.runs) (now-past_of new)
       ∙ h
-      ∙ ap (λ (w : World). w.runs ++ record { child = child; exit = exit } ∷ []) (sym (now-past_of old.world old.notes.items))
+      ∙ ap (λ (w : World). w.runs ++ record { child = child; exit = exit } ∷ []) (sym (now-past_of old))
 
   -- a child, whose end is known after it
-  pub settled_run : {E : Type 0} (child : Child) (noted : Result Exit E) (result : Result Exit CallStop) → Settled noted fails faults faults' wants wants' result → OnOk noted (Noted old new (Run child) (end_if fails)) → (fails ≡ false → IfOk noted (λ exit. new.world.runs ≡ old.world.runs ++ record { child = child; exit = exit } ∷ [])) → OnErr noted (Kept old new) → RunEnds (told_by old) (told_by last) child (run_answer result)
+  pub settled_run : {E : Type 0} (child : Child) (noted : Result Exit E) (result : Result Exit CallStop) → IsAnswer noted fails faults faults' wants wants' result → OnOk noted (NotesCall old new (Run child) (end_if fails)) → (fails ≡ false → IfOk noted (λ exit. new.world.runs ≡ old.world.runs ++ record { child = child; exit = exit } ∷ [])) → OnErr noted (SameLog old new) → RunEnds (past_of_log old) (past_of_log last) child (run_answer result)
   settled_run child (Ok y) (Ok x) s ok ran err =
       (ended (Run child) false s.1 ok, runs_now child x (subst (λ (exit : Exit). new.world.runs ≡ old.world.runs ++ record { child = child; exit = exit } ∷ []) (same_ok y x s.0) (ran s.1)))
   settled_run child (Ok y) (Err Failed) s ok ran err = ended (Run child) true s.1 ok
@@ -101,12 +101,12 @@ whole_answer (Err Failed) = Err read.Failed
 whole_answer (Err NoMemory) = Err read.NoMemory
 
 module _ (old new last : UndoLog) (fails : Bool) (faults faults' wants wants' : ℕ) (is_last : last ≡ new) where
-  whole : (path : List ℕ) (x y : Whole) (b : Bool) → y ≡ x → fails ≡ b → Noted old new (File path) (end_whole fails y) → Did (told_by old) (told_by last) (File path) (end_whole b x)
+  whole : (path : List ℕ) (x y : Whole) (b : Bool) → y ≡ x → fails ≡ b → NotesCall old new (File path) (end_whole fails y) → IsCall (past_of_log old) (past_of_log last) (File path) (end_whole b x)
   whole path x y b same is h =
       done_now old new last fails faults faults' wants wants' is_last (File path) (end_whole b x)
-      (subst (λ (c : Bool). Noted old new (File path) (end_whole c x)) is (subst (λ (z : Whole). Noted old new (File path) (end_whole fails z)) same h))
+      (subst (λ (c : Bool). NotesCall old new (File path) (end_whole c x)) is (subst (λ (z : Whole). NotesCall old new (File path) (end_whole fails z)) same h))
 
-  pub settled_file : {E : Type 0} (path : List ℕ) (noted : Result Whole E) (result : Result Whole CallStop) → Settled noted fails faults faults' wants wants' result → IfOk noted (λ found. Noted old new (File path) (end_whole fails found)) → OnErr noted (Kept old new) → FileEnds (told_by old) (told_by last) path (whole_answer result)
+  pub settled_file : {E : Type 0} (path : List ℕ) (noted : Result Whole E) (result : Result Whole CallStop) → IsAnswer noted fails faults faults' wants wants' result → IfOk noted (λ found. NotesCall old new (File path) (end_whole fails found)) → OnErr noted (SameLog old new) → FileEnds (past_of_log old) (past_of_log last) path (whole_answer result)
   settled_file path (Ok y) (Ok (Bytes x)) s ok err = whole path (Bytes x) y false (same_ok y (Bytes x) s.0) s.1 ok
   settled_file path (Ok y) (Ok (TooLong x)) s ok err = whole path (TooLong x) y false (same_ok y (TooLong x) s.0) s.1 ok
   settled_file path (Ok y) (Err Failed) s ok err = whole path y y true refl s.1 ok

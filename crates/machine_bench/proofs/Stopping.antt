@@ -1,5 +1,5 @@
 -- What a stop leaves of disks is a crash image.
-use Rattle.std.proofs.Common.{◌≡◌, ◌⊎◌, ⊎_elim, ℕ, ◌+◌, ◌-◌, ◌<◌, ◌≤◌, true, false, cond, List, [], ◌∷◌, ◌++◌, length, take, drop, Option, Some, None, refl, sym, ◌∙◌, ap, subst, arith, get_or}
+use Rattle.std.proofs.Common.{◌≡◌, ◌⊎◌, ⊎_elim, ℕ, Bool, ◌+◌, ◌<◌, ◌≤◌, true, false, cond, List, [], ◌∷◌, ◌++◌, length, take, drop, Option, Some, None, refl, sym, ◌∙◌, ap, subst, arith, get_or}
 use Rattle.std.specs.Prelude.{bytes_eq, slice_get, slice_set}
 use Rattle.std.specs.Option.{option_and_then, option_map}
 use Rattle.std.specs.List.{AllZip}
@@ -12,11 +12,11 @@ use Rattle.machine.specs.declared.world.Span.{Span}
 use Rattle.machine.specs.declared.world.World.{World}
 use Rattle.machine.specs.World.{bytes_under}
 use Rattle.machine.specs.Crash.{Crash, is_in}
-use Rattle.machine.specs.Past.{Grows, Held, Past, now}
+use Rattle.machine.specs.Past.{Grows, Held, Past, world_now}
 use Rattle.machine.proofs.Moments.{was_now}
 use Rattle.undo_log.specs.declared.log.UndoLog.{UndoLog}
-use Rattle.undo_log.specs.Logged.{told_by}
-use Rattle.machine_bench.specs.Stopped.{Picked, PickedByte, PickedBytes, PickedDisk}
+use Rattle.undo_log.specs.Logged.{past_of_log}
+use Rattle.machine_bench.specs.Stopped.{CrashImageOf, BytesAfterStop, DiskAfterStop, byte_after_stop, byte_left}
 use Rattle.updater_text.specs.Lent.{with_front}
 use Rattle.undo_log.proofs.Putting.{whole_list}
 use Rattle.undo_log.proofs.Rest.{same_here}
@@ -27,15 +27,15 @@ lt_or_le i n = grind (arith, nat_tests)
 
 -- one byte more
 module _ (pick : ℕ) (spans : List Span) (path initial bytes : List ℕ) (at v : ℕ) (within : at < length bytes) (rest : (k : ℕ) → at ≤ k → get_or bytes k 0 ≡ get_or initial k 0) where
-  pub bytes_done : ((k : ℕ) → k < at → PickedByte pick (is_in spans path k) (get_or initial k 0) (get_or bytes k 0)) → PickedByte pick (is_in spans path at) (get_or bytes at 0) v → (k : ℕ) → k < at + 1 → PickedByte pick (is_in spans path k) (get_or initial k 0) (get_or (slice_set bytes at v) k 0)
+  pub bytes_done : ((k : ℕ) → k < at → get_or bytes k 0 ≡ byte_after_stop pick spans path k (get_or initial k 0)) → v ≡ byte_after_stop pick spans path at (get_or bytes at 0) → (k : ℕ) → k < at + 1 → get_or (slice_set bytes at v) k 0 ≡ byte_after_stop pick spans path k (get_or initial k 0)
   bytes_done done here k lt =
       ⊎_elim
-      (λ less. subst (λ (b : ℕ). PickedByte pick (is_in spans path k) (get_or initial k 0) b) (sym (get_or-set_other bytes at k v 0 (omega (arith, less)))) (done k less))
+      (λ less. get_or-set_other bytes at k v 0 (omega (arith, less)) ∙ done k less)
       (λ more.
       let same : at ≡ k = omega arith in
-      let set_here = subst (λ (b : ℕ). PickedByte pick (is_in spans path at) (get_or bytes at 0) b) (sym (get_or-set_same bytes at v 0 within)) here in
-      let old_here = subst (λ (b : ℕ). PickedByte pick (is_in spans path at) b (get_or (slice_set bytes at v) at 0)) (rest at (omega arith)) set_here in
-      subst (λ (j : ℕ). PickedByte pick (is_in spans path j) (get_or initial j 0) (get_or (slice_set bytes at v) j 0)) same old_here)
+      let is : get_or (slice_set bytes at v) at 0 ≡ byte_after_stop pick spans path at (get_or initial at 0) =
+      get_or-set_same bytes at v 0 within ∙ here ∙ ap (λ (b : ℕ). byte_after_stop pick spans path at b) (rest at (omega arith)) in
+      subst (λ (j : ℕ). get_or (slice_set bytes at v) j 0 ≡ byte_after_stop pick spans path j (get_or initial j 0)) same is)
       (lt_or_le k at)
 
   pub bytes_rest : (k : ℕ) → at + 1 ≤ k → get_or (slice_set bytes at v) k 0 ≡ get_or initial k 0
@@ -73,9 +73,9 @@ module _ (pick : ℕ) (spans : List Span) (p : List ℕ) where
   Under None None = Unit {0}
   Under None (Some y) = ⊥
   Under (Some x) None = ⊥
-  Under (Some x) (Some y) = PickedBytes pick spans p x y
+  Under (Some x) (Some y) = BytesAfterStop pick spans p x y
 
-  under_disks : (xs ys : List Named) → AllZip (PickedDisk pick spans) xs ys → Under (bytes_under xs p) (bytes_under ys p)
+  under_disks : (xs ys : List Named) → AllZip (DiskAfterStop pick spans) xs ys → Under (bytes_under xs p) (bytes_under ys p)
   unfolding Under
   under_disks [] [] h = tt
   under_disks [] (y ∷ ys) h = absurd h
@@ -83,7 +83,7 @@ module _ (pick : ℕ) (spans : List Span) (p : List ℕ) where
   under_disks (x ∷ xs) (y ∷ ys) h =
       subst (λ (q : List ℕ). Under (cond (bytes_eq x.path p) (Some x.bytes) (bytes_under xs p)) (cond (bytes_eq q p) (Some y.bytes) (bytes_under ys p))) (sym h.0.path)
       (elim (bytes_eq x.path p) as (λ b. bytes_eq x.path p ≡ b → Under (cond b (Some x.bytes) (bytes_under xs p)) (cond b (Some y.bytes) (bytes_under ys p))) [
-        | true ↦ λ e. subst (λ (q : List ℕ). PickedBytes pick spans q x.bytes y.bytes) ((bytes_eq-Decides x.path p).0 e) h.0.bytes
+        | true ↦ λ e. subst (λ (q : List ℕ). BytesAfterStop pick spans q x.bytes y.bytes) ((bytes_eq-Decides x.path p).0 e) h.0.bytes
         | false ↦ λ e. under_disks xs ys h.1
       ] refl)
 
@@ -111,19 +111,18 @@ module _ (pick : ℕ) (spans : List Span) (p : List ℕ) where
   same_option None = refl
   same_option (Some b) = refl
 
-  under_settled : (a b : Option (List ℕ)) → Under a b → (i : ℕ) → is_in spans p i ≡ false → option_and_then (λ (x : List ℕ). slice_get x i) b ≡ option_and_then (λ (x : List ℕ). slice_get x i) a
+  under_byte : (a b : Option (List ℕ)) → Under a b → (i : ℕ) → option_and_then (λ (x : List ℕ). slice_get x i) b ≡ option_map (λ (byte : ℕ). byte_after_stop pick spans p i byte) (option_and_then (λ (x : List ℕ). slice_get x i) a)
   unfolding Under
-  under_settled None None h i free = refl
-  under_settled None (Some y) h i free = absurd h
-  under_settled (Some x) None h i free = absurd h
-  under_settled (Some x) (Some y) h i free = byte_by x y i (λ b. b) h.as_long (λ lt. (h.each i lt).settled free) ∙ same_option (slice_get x i)
+  under_byte None None h i = refl
+  under_byte None (Some y) h i = absurd h
+  under_byte (Some x) None h i = absurd h
+  under_byte (Some x) (Some y) h i = byte_by x y i (λ byte. byte_after_stop pick spans p i byte) h.as_long (λ lt. h.each i lt)
 
-  under_inverted : (a b : Option (List ℕ)) → Under a b → pick ≡ 1 → (i : ℕ) → is_in spans p i ≡ true → option_and_then (λ (x : List ℕ). slice_get x i) b ≡ option_map (λ (byte : ℕ). 255 - byte) (option_and_then (λ (x : List ℕ). slice_get x i) a)
-  unfolding Under
-  under_inverted None None h one i there = refl
-  under_inverted None (Some y) h one i there = absurd h
-  under_inverted (Some x) None h one i there = absurd h
-  under_inverted (Some x) (Some y) h one i there = byte_by x y i (λ byte. 255 - byte) h.as_long (λ lt. (h.each i lt).inverted one there)
+  under_settled : (a b : Option (List ℕ)) → Under a b → (i : ℕ) → is_in spans p i ≡ false → option_and_then (λ (x : List ℕ). slice_get x i) b ≡ option_and_then (λ (x : List ℕ). slice_get x i) a
+  under_settled a b h i free =
+      under_byte a b h i
+      ∙ ap (λ (pending : Bool). option_map (λ (byte : ℕ). cond pending (byte_left pick i byte) byte) (option_and_then (λ (x : List ℕ). slice_get x i) a)) free
+      ∙ same_option (option_and_then (λ (x : List ℕ). slice_get x i) a)
 
 -- by pick 0 nothing changes
 same_named : (x y : Named) → y.path ≡ x.path → y.bytes ≡ x.bytes → y ≡ x
@@ -132,16 +131,20 @@ same_named x y path bytes =
     let of_bytes : List ℕ → Named = λ b. record { path = x.path; bytes = b } in
     ap of_path path ∙ ap of_bytes bytes
 
-disks_kept : (pick : ℕ) (spans : List Span) (xs ys : List Named) → pick ≡ 0 → AllZip (PickedDisk pick spans) xs ys → ys ≡ xs
+byte_kept : (pick at byte : ℕ) (pending : Bool) → pick ≡ 0 → cond pending (byte_left pick at byte) byte ≡ byte
+byte_kept pick at byte false none = refl
+byte_kept pick at byte true none = ap (λ (k : ℕ). byte_left k at byte) none
+
+disks_kept : (pick : ℕ) (spans : List Span) (xs ys : List Named) → pick ≡ 0 → AllZip (DiskAfterStop pick spans) xs ys → ys ≡ xs
 disks_kept pick spans [] [] none h = refl
 disks_kept pick spans [] (y ∷ ys) none h = absurd h
 disks_kept pick spans (x ∷ xs) [] none h = absurd h
 disks_kept pick spans (x ∷ xs) (y ∷ ys) none h =
-    let bytes : y.bytes ≡ x.bytes = ext_get_or 0 y.bytes x.bytes h.0.bytes.as_long (λ i lt. (h.0.bytes.each i (subst (λ (n : ℕ). i < n) h.0.bytes.as_long lt)).kept none) in
+    let bytes : y.bytes ≡ x.bytes = ext_get_or 0 y.bytes x.bytes h.0.bytes.as_long (λ i lt. h.0.bytes.each i (subst (λ (n : ℕ). i < n) h.0.bytes.as_long lt) ∙ byte_kept pick i (get_or x.bytes i 0) (is_in spans x.path i) none) in
     ap (λ (n : Named). n ∷ ys) (same_named x y h.0.path bytes)
     ∙ ap (λ (ns : List Named). x ∷ ns) (disks_kept pick spans xs ys none h.1)
 
-pub picked_world : (pick : ℕ) (w : World) (disks : List Named) → AllZip (PickedDisk pick w.pending) w.disks disks → Picked pick w (record w { disks = disks; pending = [] })
+pub picked_world : (pick : ℕ) (w : World) (disks : List Named) → AllZip (DiskAfterStop pick w.pending) w.disks disks → CrashImageOf pick w (record w { disks = disks; pending = [] })
 picked_world pick w disks all = record {
   crash = record {
     files = refl;
@@ -154,22 +157,22 @@ picked_world pick w disks all = record {
     bytes = λ path i free. under_settled pick w.pending path (bytes_under w.disks path) (bytes_under disks path) (under_disks pick w.pending path w.disks disks all) i free;
   };
   kept = λ none. disks_kept pick w.pending w.disks disks none all;
-  inverted = λ one path i there. under_inverted pick w.pending path (bytes_under w.disks path) (bytes_under disks path) (under_disks pick w.pending path w.disks disks all) one i there;
+  bytes = λ path i. under_byte pick w.pending path (bytes_under w.disks path) (bytes_under disks path) (under_disks pick w.pending path w.disks disks all) i;
 }
 
-pub picked_disks : (pick : ℕ) (w : World) (lent after : List Named) (spans pending : List Span) → lent ≡ w.disks → spans ≡ w.pending → AllZip (PickedDisk pick spans) lent after → length after ≡ length lent → pending ≡ [] → Picked pick w (record w { disks = with_front w.disks after; pending = pending })
+pub picked_disks : (pick : ℕ) (w : World) (lent after : List Named) (spans pending : List Span) → lent ≡ w.disks → spans ≡ w.pending → AllZip (DiskAfterStop pick spans) lent after → length after ≡ length lent → pending ≡ [] → CrashImageOf pick w (record w { disks = with_front w.disks after; pending = pending })
 picked_disks pick w lent after spans pending given are all as_many none =
-    let these = subst (λ (ds : List Named). AllZip (PickedDisk pick w.pending) ds after) given (subst (λ (ss : List Span). AllZip (PickedDisk pick ss) lent after) are all) in
+    let these = subst (λ (ds : List Named). AllZip (DiskAfterStop pick w.pending) ds after) given (subst (λ (ss : List Span). AllZip (DiskAfterStop pick ss) lent after) are all) in
     let left : record w { disks = with_front w.disks after; pending = pending } ≡ record w { disks = after; pending = [] } =
     ap (λ (ds : List Named). record w { disks = ds; pending = pending }) (whole_list w.disks after (as_many ∙ ap length given))
     ∙ ap (λ (ss : List Span). record w { disks = after; pending = ss }) none in
-    subst (λ (v : World). Picked pick w v) (sym left) (picked_world pick w after these)
+    subst (λ (v : World). CrashImageOf pick w v) (sym left) (picked_world pick w after these)
 
 -- a crash image of the world now is one that a stop since any moment may have left
-pub held_after : (log new : UndoLog) → Crash log.world new.world → (old : Past) → Grows old (told_by log) → Held old (told_by log) (now (told_by new))
+pub held_after : (log new : UndoLog) → Crash log.world new.world → (old : Past) → Grows old (past_of_log log) → Held old (past_of_log log) (world_now (past_of_log new))
 held_after log new crash old grows = (
-  now (told_by log),
-  was_now old (told_by log) grows,
-  subst (λ (w : World). Crash w (now (told_by new))) (sym (now-past_of log.world log.notes.items))
-      (subst (λ (v : World). Crash log.world v) (sym (now-past_of new.world new.notes.items)) crash),
+  world_now (past_of_log log),
+  was_now old (past_of_log log) grows,
+  subst (λ (w : World). Crash w (world_now (past_of_log new))) (sym (now-past_of log))
+      (subst (λ (v : World). Crash log.world v) (sym (now-past_of new)) crash),
 )

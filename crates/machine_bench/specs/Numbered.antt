@@ -1,7 +1,7 @@
 -- A bench numbers its calls from 1: some fail by their number, and all from a stop on.
 use Rattle.std.specs.Prelude.{◌≡◌, ◌+◌, ◌==◌, ◌&&◌, ◌||◌, ℕ, Bool, true, false, not, List, Option, Some, None, Result, Ok, Err, IsOk, IsErr, nat_le, vec_len, if◌then◌else◌}
 use Rattle.std.specs.List.{list_any}
-use Rattle.updater_text.specs.Counts.{counted}
+use Rattle.updater_text.specs.Counts.{next_count}
 use Rattle.machine.specs.declared.world.Child.{Child}
 use Rattle.machine.specs.declared.world.Exit.{Exit}
 use Rattle.machine.specs.declared.world.World.{World}
@@ -13,17 +13,17 @@ use Rattle.machine.specs.declared.calls.RunStop.{RunStop}
 use Rattle.machine.specs.declared.calls.RunStop.TheVariants as run
 use Rattle.machine_bench.specs.declared.bench.Bench.{Bench}
 use Rattle.machine_bench.specs.declared.setup.Setup.{Setup}
-use Rattle.undo_log.specs.Logged.{Kept}
-use Rattle.machine_bench.specs.Scripts.{exit_of, ran_by, script_for}
+use Rattle.undo_log.specs.Logged.{SameLog}
+use Rattle.machine_bench.specs.Scripts.{exit_of, after_script, script_for}
 
 -- the number is one of those that fail
-abbrev pub is_named : List ℕ → ℕ → Bool
-is_named fails number = list_any (λ n. n == number) fails
+abbrev pub is_failing_number : List ℕ → ℕ → Bool
+is_failing_number fails number = list_any (λ n. n == number) fails
 
 -- there is a stop at the number or before it
-abbrev pub is_stopped : Option ℕ → ℕ → Bool
-is_stopped None number = false
-is_stopped (Some stop) number = nat_le stop number
+abbrev pub is_past_stop : Option ℕ → ℕ → Bool
+is_past_stop None number = false
+is_past_stop (Some stop) number = nat_le stop number
 
 -- there is a stop at the number
 abbrev pub is_stop : Option ℕ → ℕ → Bool
@@ -32,22 +32,21 @@ is_stop (Some stop) number = stop == number
 
 -- the next call fails
 abbrev pub fails_next : Bench → Bool
-fails_next b = is_named b.fails (vec_len b.log.notes + 1) || is_stopped b.stop (vec_len b.log.notes + 1)
+fails_next b = is_failing_number b.fails (vec_len b.log.notes + 1) || is_past_stop b.stop (vec_len b.log.notes + 1)
 
 -- the next call, if it is a write, is half done
 abbrev pub halves_next : Bench → Bool
-halves_next b = not (is_named b.fails (vec_len b.log.notes + 1)) && is_stop b.stop (vec_len b.log.notes + 1)
+halves_next b = not (is_failing_number b.fails (vec_len b.log.notes + 1)) && is_stop b.stop (vec_len b.log.notes + 1)
 
 -- the answer to a call that was to fail or not, from whether it was noted, and the counts of faults and wants
-abbrev pub Settled : {T E : Type 0} → Result T E → Bool → ℕ → ℕ → ℕ → ℕ → Result T CallStop → Type 0
-Settled noted fails faults faults' wants wants' (Ok x) = (noted ≡ Ok x) × (fails ≡ false) × (faults' ≡ faults) × (wants' ≡ wants)
-Settled noted fails faults faults' wants wants' (Err Failed) = IsOk noted × (fails ≡ true) × (faults' ≡ counted faults) × (wants' ≡ wants)
-Settled noted fails faults faults' wants wants' (Err NoMemory) = IsErr noted × (faults' ≡ faults) × (wants' ≡ counted wants)
+abbrev pub IsAnswer : {T E : Type 0} → Result T E → Bool → ℕ → ℕ → ℕ → ℕ → Result T CallStop → Type 0
+IsAnswer noted fails faults faults' wants wants' (Ok x) = (noted ≡ Ok x) × (fails ≡ false) × (faults' ≡ faults) × (wants' ≡ wants)
+IsAnswer noted fails faults faults' wants wants' (Err Failed) = IsOk noted × (fails ≡ true) × (faults' ≡ next_count faults) × (wants' ≡ wants)
+IsAnswer noted fails faults faults' wants wants' (Err NoMemory) = IsErr noted × (faults' ≡ faults) × (wants' ≡ next_count wants)
 
--- what a bench was set up with stays
+-- what a bench was set up with stays; its boot loader stands in its past
 pub record SameSetup (old new : Bench) : Type 0 where
   pub scripts : new.scripts ≡ old.scripts
-  pub boot : new.boot ≡ old.boot
   pub fails : new.fails ≡ old.fails
   pub stop : new.stop ≡ old.stop
   pub clock : new.clock ≡ old.clock
@@ -61,7 +60,7 @@ pub record SameBench (old new : Bench) : Type 0 where
 -- a bench is set up so, and no call has failed or wanted memory
 pub record IsSetUp (setup : Setup) (b : Bench) : Type 0 where
   pub scripts : b.scripts ≡ setup.scripts
-  pub boot : b.boot ≡ setup.boot
+  pub boot : b.log.boot ≡ setup.boot
   pub fails : b.fails ≡ setup.fails
   pub stop : b.stop ≡ setup.stop
   pub clock : b.clock ≡ setup.now
@@ -69,34 +68,34 @@ pub record IsSetUp (setup : Setup) (b : Bench) : Type 0 where
   pub wants : b.wants ≡ 0
 
 -- a call more, which was to fail or not
-pub record Numbered (old new : Bench) (fails : Bool) : Type 0 where
+pub record OneCallMore (old new : Bench) (fails : Bool) : Type 0 where
   pub by_number : fails_next old ≡ fails
   pub calls : vec_len new.log.notes ≡ vec_len old.log.notes + 1
-  pub faults : new.faults ≡ (if fails then counted old.faults else old.faults)
+  pub faults : new.faults ≡ (if fails then next_count old.faults else old.faults)
   pub wants : new.wants ≡ old.wants
 
 -- a call that wanted memory has no number and does nothing
-pub record Unnumbered (old new : Bench) : Type 0 where
-  pub kept : Kept old.log new.log
+pub record NoCallMore (old new : Bench) : Type 0 where
+  pub kept : SameLog old.log new.log
   pub faults : new.faults ≡ old.faults
-  pub wants : new.wants ≡ counted old.wants
+  pub wants : new.wants ≡ next_count old.wants
 
 -- a call fails exactly by its number; where it fails, the world is this one
 abbrev pub Obeys : {T : Type 0} → Bench → Bench → World → Result T CallStop → Type 0
-Obeys old new failed (Ok x) = Numbered old new false
-Obeys old new failed (Err Failed) = Numbered old new true × (new.log.world ≡ failed)
-Obeys old new failed (Err NoMemory) = Unnumbered old new
+Obeys old new failed (Ok x) = OneCallMore old new false
+Obeys old new failed (Err Failed) = OneCallMore old new true × (new.log.world ≡ failed)
+Obeys old new failed (Err NoMemory) = NoCallMore old new
 
 -- the same of the reading of a whole file, which does nothing where it fails
 abbrev pub FileObeys : {T : Type 0} → Bench → Bench → Result T ReadStop → Type 0
-FileObeys old new (Ok x) = Numbered old new false
-FileObeys old new (Err (read.TooLong n)) = Numbered old new false
-FileObeys old new (Err read.Failed) = Numbered old new true × (new.log.world ≡ old.log.world)
-FileObeys old new (Err read.NoMemory) = Unnumbered old new
+FileObeys old new (Ok x) = OneCallMore old new false
+FileObeys old new (Err (read.TooLong n)) = OneCallMore old new false
+FileObeys old new (Err read.Failed) = OneCallMore old new true × (new.log.world ≡ old.log.world)
+FileObeys old new (Err read.NoMemory) = NoCallMore old new
 
--- the same of a child, which ends and changes the world by the first script that fits it
+-- the same of a child, which ends and changes the world by the first script that is for it
 abbrev pub RunObeys : Bench → Bench → Child → Result Exit RunStop → Type 0
 RunObeys old new child (Ok exit) =
-    Numbered old new false × (exit ≡ exit_of (script_for old.scripts child)) × (new.log.world ≡ ran_by (script_for old.scripts child) child old.log.world)
-RunObeys old new child (Err run.Failed) = Numbered old new true × (new.log.world ≡ old.log.world)
-RunObeys old new child (Err run.NoMemory) = Unnumbered old new
+    OneCallMore old new false × (exit ≡ exit_of (script_for old.scripts child)) × (new.log.world ≡ after_script (script_for old.scripts child) child old.log.world)
+RunObeys old new child (Err run.Failed) = OneCallMore old new true × (new.log.world ≡ old.log.world)
+RunObeys old new child (Err run.NoMemory) = NoCallMore old new

@@ -1,17 +1,17 @@
 ghost use Rattle.std.specs.Prelude.{◌≡◌, ◌+◌, ◌↔◌, [], true, false, pos, length, vec_len, IsTrue, IsOk, IfOk, OnOk, OnErr, if◌then◌else◌};
 ghost use Rattle.std.specs.Result.{result_unwrap_or};
-ghost use Rattle.machine.specs.World.{Holds, file, readable, size_of, written};
+ghost use Rattle.machine.specs.World.{HoldsUpTo, file, readable, length_under, with_write};
 ghost use Rattle.machine.specs.Spares.{is_boot};
-ghost use Rattle.machine.specs.Past.{Clock, Read, Replace, Run, Size, Sync, Write, now};
-ghost use Rattle.machine.specs.Calls.{Counted, Ends, FileCounted, FileEnds, HasRoom, IsKept, IsLong, ReadSome, ReadsFile, RunCounted, RunEnds};
-ghost use Rattle.undo_log.specs.Logged.{told_by};
+ghost use Rattle.machine.specs.Past.{Clock, Read, Replace, Run, Size, Sync, Write, world_now};
+ghost use Rattle.machine.specs.Calls.{Counted, Ends, FileCounted, FileEnds, WriteFits, IsKept, IsLong, ReadSome, ReadsFile, RunCounted, RunEnds};
+ghost use Rattle.undo_log.specs.Logged.{past_of_log};
 
 use crate::scripts::{effects_of, exit_of, script_for};
 use crate::setup::{Script, Setup};
 use boot_model::{BootKind, Vars};
-use machine::{CallStop, Child, Copied, Exit, Machine, Named, ReadStop, RunStop, World};
+use machine::{CallStop, Child, Exit, Machine, Named, ReadStop, RunStop, TryClone, World};
 use std::alloc::Global;
-use undo_log::{Asked, UndoLog, Whole, holds};
+use undo_log::{NotedCall, UndoLog, Whole, has_room};
 use updater_text::{Items, NoMemory, Text};
 
 /// A machine in memory, which tells its world and its past.
@@ -31,7 +31,6 @@ pub struct Bench {
     pub(crate) alloc: Global,
     pub(crate) log: UndoLog,
     pub(crate) scripts: Items<Script>,
-    pub(crate) boot: BootKind,
     pub(crate) fails: Items<u64>,
     pub(crate) stop: Option<u64>,
     pub(crate) clock: i64,
@@ -40,9 +39,16 @@ pub struct Bench {
 }
 
 // A world with nothing pending, no writes and no runs, and its empty log.
-fn start(alloc: Global, disks: Items<Named>, files: Items<Named>, vars: Vars) -> UndoLog
+fn start(
+    alloc: Global,
+    boot: BootKind,
+    disks: Items<Named>,
+    files: Items<Named>,
+    vars: Vars,
+) -> UndoLog
     ensures world { result.world ≡ record { disks = disks; pending = []; writes = []; files = files; vars = vars; runs = []; fetched = 0 } }
     ensures notes { result.notes.items ≡ [] }
+    ensures boot { result.boot ≡ boot }
 {
     UndoLog {
         world: World {
@@ -55,6 +61,7 @@ fn start(alloc: Global, disks: Items<Named>, files: Items<Named>, vars: Vars) ->
             fetched: 0,
         },
         notes: Vec::new(alloc),
+        boot,
     }
 }
 
@@ -65,7 +72,7 @@ impl Bench {
     /// first one counts.
     pub fn new(alloc: Global, setup: Setup) -> Result<Bench, NoMemory>
         ensures made { IsOk result }
-        ensures past { IfOk result (λ b. told_by b.log ≡ record { first = record { disks = setup.disks; pending = []; writes = []; files = setup.files; vars = setup.vars; runs = []; fetched = 0 }; moments = [] }) }
+        ensures past { IfOk result (λ b. past_of_log b.log ≡ record { boot = setup.boot; first = record { disks = setup.disks; pending = []; writes = []; files = setup.files; vars = setup.vars; runs = []; fetched = 0 }; moments = [] }) }
         ensures setup { IfOk result (λ b. IsSetUp setup b) }
     {
         let Setup {
@@ -80,9 +87,8 @@ impl Bench {
         } = setup;
         Ok(Bench {
             alloc,
-            log: start(alloc, disks, files, vars),
+            log: start(alloc, boot, disks, files, vars),
             scripts,
-            boot,
             fails,
             stop,
             clock: now,
@@ -93,16 +99,16 @@ impl Bench {
 
     /// The world as it is now, once more.
     pub fn world(&self) -> Result<World, NoMemory>
-        ensures { IfOk result (λ w. w ≡ now (told_by self.now.log)) }
+        ensures { IfOk result (λ w. w ≡ world_now (past_of_log self.now.log)) }
     {
-        self.log.world.copied(self.alloc)
+        self.log.world.try_clone(self.alloc)
     }
 
     /// Whether the disk has room for a write up to this end.
     pub fn has_room(&self, path: &str, end: u64) -> bool
-        ensures { IsTrue result ↔ Holds (now (told_by self.now.log)) path.now end }
+        ensures { IsTrue result ↔ HoldsUpTo (world_now (past_of_log self.now.log)) path.now end }
     {
-        holds(&self.log.world, path, end, 0)
+        has_room(&self.log.world, path, end, 0)
     }
 
     /// How often a call has failed.
@@ -122,10 +128,10 @@ impl Bench {
 
 impl Bench {
     ghost use Rattle.machine.specs.Past.{Broken, Done, Run};
-    ghost use Rattle.undo_log.specs.Logged.{Kept, Noted, end_if};
-    ghost use Rattle.undo_log.specs.Halves.{half_written};
+    ghost use Rattle.undo_log.specs.Logged.{SameLog, NotesCall, end_if};
+    ghost use Rattle.undo_log.specs.Halves.{with_half_write};
     ghost use Rattle.machine_bench.specs.Scripts as scripts;
-    ghost use Rattle.machine_bench.specs.Numbered.{SameBench, SameSetup, Settled, fails_next, halves_next, is_named};
+    ghost use Rattle.machine_bench.specs.Numbered.{SameBench, SameSetup, IsAnswer, fails_next, halves_next, is_failing_number};
 
     // The number of the next call.
     fn number(&self) -> u64
@@ -135,8 +141,8 @@ impl Bench {
     }
 
     // Whether the next call is one of those that are named to fail.
-    fn is_named(&self) -> bool
-        ensures { result ≡ is_named self.now.fails (vec_len self.now.log.notes + 1) }
+    fn is_failing_number(&self) -> bool
+        ensures { result ≡ is_failing_number self.now.fails (vec_len self.now.log.notes + 1) }
     {
         self.fails.as_slice().contains(&self.number())
     }
@@ -145,14 +151,14 @@ impl Bench {
     fn is_failing(&self) -> bool
         ensures { result ≡ fails_next self.now }
     {
-        self.is_named() || self.stop.is_some_and(|stop| stop <= self.number())
+        self.is_failing_number() || self.stop.is_some_and(|stop| stop <= self.number())
     }
 
     // Whether the next call, if it is a write, is half done.
     fn is_halving(&self) -> bool
         ensures { result ≡ halves_next self.now }
     {
-        !self.is_named() && self.stop == Some(self.number())
+        !self.is_failing_number() && self.stop == Some(self.number())
     }
 
     // The answer to a call, which counts what failed or wanted memory.
@@ -160,7 +166,7 @@ impl Bench {
         ensures log { self.new.log ≡ self.old.log }
         ensures setup { SameSetup self.old self.new }
         ensures counts { Counted self.old.faults self.new.faults self.old.wants self.new.wants result }
-        ensures answer { Settled noted fails self.old.faults self.new.faults self.old.wants self.new.wants result }
+        ensures answer { IsAnswer noted fails self.old.faults self.new.faults self.old.wants self.new.wants result }
     {
         match noted {
             Ok(_) if fails => {
@@ -177,12 +183,12 @@ impl Bench {
 
     // Writes, or is stopped at it, or fails by its number.
     fn write_noted(&mut self, path: &str, at: u64, from: &[u8], fails: bool) -> Result<(), NoMemory>
-        requires holds { Holds self.old.log.world path.now (at + length from.now) }
+        requires room { HoldsUpTo self.old.log.world path.now (at + length from.now) }
         requires fails { fails ≡ fails_next self.old }
-        ensures ok { OnOk result (Noted self.old.log self.new.log (Write path.now at (length from.now)) (end_if fails)) }
-        ensures written { fails ≡ false → OnOk result (self.new.log.world ≡ written self.old.log.world path.now at from.now) }
-        ensures failed { fails ≡ true → OnOk result (self.new.log.world ≡ (if halves_next self.old then half_written self.old.log.world path.now at from.now else self.old.log.world)) }
-        ensures err { OnErr result (Kept self.old.log self.new.log) }
+        ensures ok { OnOk result (NotesCall self.old.log self.new.log (Write path.now at (length from.now)) (end_if fails)) }
+        ensures left { fails ≡ false → OnOk result (self.new.log.world ≡ with_write self.old.log.world path.now at from.now) }
+        ensures failed { fails ≡ true → OnOk result (self.new.log.world ≡ (if halves_next self.old then with_half_write self.old.log.world path.now at from.now else self.old.log.world)) }
+        ensures err { OnErr result (SameLog self.old.log self.new.log) }
         ensures same { SameBench self.old self.new }
     {
         if !fails {
@@ -191,22 +197,20 @@ impl Bench {
         if self.is_halving() {
             return self.log.write_half(self.alloc, path, at, from);
         }
-        let asked = Asked::Write {
-            path: Text::new(self.alloc, path)?,
-            at,
-            count: from.len() as u64,
-        };
-        self.log.refuse(self.alloc, asked)
+        let path = Text::new(self.alloc, path)?;
+        let count = from.len() as u64;
+        self.log
+            .refuse(self.alloc, NotedCall::Write { path, at, count })
     }
 
     // Runs a child by its script, or fails by its number.
     fn run_noted(&mut self, alloc: Global, child: &Child, fails: bool) -> Result<Exit, NoMemory>
-        ensures ok { OnOk result (Noted self.old.log self.new.log (Run child.now) (end_if fails)) }
+        ensures ok { OnOk result (NotesCall self.old.log self.new.log (Run child.now) (end_if fails)) }
         ensures exit { IfOk result (λ exit. exit ≡ scripts.exit_of (scripts.script_for self.old.scripts child.now)) }
-        ensures ran { fails ≡ false → OnOk result (self.new.log.world ≡ scripts.ran_by (scripts.script_for self.old.scripts child.now) child.now self.old.log.world) }
+        ensures ran { fails ≡ false → OnOk result (self.new.log.world ≡ scripts.after_script (scripts.script_for self.old.scripts child.now) child.now self.old.log.world) }
         ensures failed { fails ≡ true → self.new.log.world ≡ self.old.log.world }
         ensures kept { IfOk result IsKept }
-        ensures err { OnErr result (Kept self.old.log self.new.log) }
+        ensures err { OnErr result (SameLog self.old.log self.new.log) }
         ensures same { SameBench self.old self.new }
     {
         let script = script_for(self.scripts.as_slice(), child);
@@ -218,12 +222,12 @@ impl Bench {
 }
 
 impl Machine for Bench {
-    ghost use Rattle.undo_log.specs.Halves.{half_written};
+    ghost use Rattle.undo_log.specs.Halves.{with_half_write};
     ghost use Rattle.machine_bench.specs.Numbered.{FileObeys, Obeys, RunObeys, SameSetup, halves_next};
 
     ghost tells = { true };
 
-    ghost past = { λ b. told_by b.log };
+    ghost past = { λ b. past_of_log b.log };
 
     ghost faults = { λ b. b.faults };
 
@@ -235,9 +239,9 @@ impl Machine for Bench {
         path: &str,
         limit: u64,
     ) -> Result<Option<Items<u8>>, ReadStop>
-        ensures past { IsTrue true → FileEnds (told_by self.old.log) (told_by self.new.log) path.now result }
+        ensures past { IsTrue true → FileEnds (past_of_log self.old.log) (past_of_log self.new.log) path.now result }
         ensures counts { FileCounted self.old.faults self.new.faults self.old.wants self.new.wants result }
-        ensures answer { ReadsFile true (file (now (told_by self.old.log)) path.now) limit result }
+        ensures answer { ReadsFile true (file (world_now (past_of_log self.old.log)) path.now) limit result }
         ensures obeys { FileObeys self.old self.new result }
         ensures setup { SameSetup self.old self.new }
     {
@@ -252,9 +256,9 @@ impl Machine for Bench {
     }
 
     fn size(&mut self, path: &str, disk: bool) -> Result<Option<u64>, CallStop>
-        ensures past { IsTrue true → Ends (told_by self.old.log) (told_by self.new.log) (Size path.now) result }
+        ensures past { IsTrue true → Ends (past_of_log self.old.log) (past_of_log self.new.log) (Size path.now) result }
         ensures counts { Counted self.old.faults self.new.faults self.old.wants self.new.wants result }
-        ensures answer { IfOk result (IsLong true (size_of (now (told_by self.old.log)) path.now disk)) }
+        ensures answer { IfOk result (IsLong true (length_under (world_now (past_of_log self.old.log)) path.now disk)) }
         ensures obeys { Obeys self.old self.new self.old.log.world result }
         ensures setup { SameSetup self.old self.new }
     {
@@ -264,9 +268,9 @@ impl Machine for Bench {
     }
 
     fn read_at(&mut self, path: &str, at: u64, into: &mut [u8]) -> Result<usize, CallStop>
-        ensures past { IsTrue true → Ends (told_by self.old.log) (told_by self.new.log) (Read path.now (result_unwrap_or result 0)) result }
+        ensures past { IsTrue true → Ends (past_of_log self.old.log) (past_of_log self.new.log) (Read path.now (result_unwrap_or result 0)) result }
         ensures counts { Counted self.old.faults self.new.faults self.old.wants self.new.wants result }
-        ensures answer { IfOk result (ReadSome true (readable (now (told_by self.old.log)) path.now) at into.old into.new) }
+        ensures answer { IfOk result (ReadSome true (readable (world_now (past_of_log self.old.log)) path.now) at into.old into.new) }
         ensures obeys { Obeys self.old self.new self.old.log.world result }
         ensures unread { OnErr result (into.new ≡ into.old) }
         ensures setup { SameSetup self.old self.new }
@@ -277,11 +281,11 @@ impl Machine for Bench {
     }
 
     fn write_at(&mut self, path: &str, at: u64, from: &[u8]) -> Result<(), CallStop>
-        requires { HasRoom true (told_by self.old.log) path.now (at + length from.now) }
-        ensures past { IsTrue true → Ends (told_by self.old.log) (told_by self.new.log) (Write path.now at (length from.now)) result }
+        requires { WriteFits true (past_of_log self.old.log) path.now (at + length from.now) }
+        ensures past { IsTrue true → Ends (past_of_log self.old.log) (past_of_log self.new.log) (Write path.now at (length from.now)) result }
         ensures counts { Counted self.old.faults self.new.faults self.old.wants self.new.wants result }
-        ensures answer { IsTrue true → IfOk result (λ _. now (told_by self.new.log) ≡ written (now (told_by self.old.log)) path.now at from.now) }
-        ensures obeys { Obeys self.old self.new (if halves_next self.old then half_written self.old.log.world path.now at from.now else self.old.log.world) result }
+        ensures answer { IsTrue true → IfOk result (λ _. world_now (past_of_log self.new.log) ≡ with_write (world_now (past_of_log self.old.log)) path.now at from.now) }
+        ensures obeys { Obeys self.old self.new (if halves_next self.old then with_half_write self.old.log.world path.now at from.now else self.old.log.world) result }
         ensures setup { SameSetup self.old self.new }
     {
         let fails = self.is_failing();
@@ -290,7 +294,7 @@ impl Machine for Bench {
     }
 
     fn sync(&mut self, path: &str) -> Result<(), CallStop>
-        ensures past { IsTrue true → Ends (told_by self.old.log) (told_by self.new.log) (Sync path.now) result }
+        ensures past { IsTrue true → Ends (past_of_log self.old.log) (past_of_log self.new.log) (Sync path.now) result }
         ensures counts { Counted self.old.faults self.new.faults self.old.wants self.new.wants result }
         ensures obeys { Obeys self.old self.new self.old.log.world result }
         ensures setup { SameSetup self.old self.new }
@@ -301,7 +305,7 @@ impl Machine for Bench {
     }
 
     fn file_replace(&mut self, path: &str, bytes: &[u8]) -> Result<(), CallStop>
-        ensures past { IsTrue true → Ends (told_by self.old.log) (told_by self.new.log) (Replace path.now bytes.now) result }
+        ensures past { IsTrue true → Ends (past_of_log self.old.log) (past_of_log self.new.log) (Replace path.now bytes.now) result }
         ensures counts { Counted self.old.faults self.new.faults self.old.wants self.new.wants result }
         ensures obeys { Obeys self.old self.new self.old.log.world result }
         ensures setup { SameSetup self.old self.new }
@@ -313,7 +317,7 @@ impl Machine for Bench {
 
     fn run(&mut self, alloc: Global, child: &Child) -> Result<Exit, RunStop>
         requires { is_boot child.now.class ≡ false }
-        ensures past { IsTrue true → RunEnds (told_by self.old.log) (told_by self.new.log) child.now result }
+        ensures past { IsTrue true → RunEnds (past_of_log self.old.log) (past_of_log self.new.log) child.now result }
         ensures counts { RunCounted self.old.faults self.new.faults self.old.wants self.new.wants result }
         ensures kept { IfOk result IsKept }
         ensures obeys { RunObeys self.old self.new child.now result }
@@ -329,7 +333,7 @@ impl Machine for Bench {
     }
 
     fn now(&mut self) -> Result<i64, CallStop>
-        ensures past { IsTrue true → Ends (told_by self.old.log) (told_by self.new.log) (Clock (result_unwrap_or result (pos 0))) result }
+        ensures past { IsTrue true → Ends (past_of_log self.old.log) (past_of_log self.new.log) (Clock (result_unwrap_or result (pos 0))) result }
         ensures counts { Counted self.old.faults self.new.faults self.old.wants self.new.wants result }
         ensures said { IfOk result (λ seconds. seconds ≡ self.old.clock) }
         ensures obeys { Obeys self.old self.new self.old.log.world result }

@@ -3,13 +3,9 @@
 #![tactic(auto)]
 
 mod bench;
-#[cfg(test)]
-mod script_tests;
 mod scripts;
 mod setup;
 mod stopped;
-#[cfg(test)]
-mod tests;
 
 pub use bench::Bench;
 pub use setup::{Script, Setup};

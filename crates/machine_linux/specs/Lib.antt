@@ -1,3 +1,5 @@
+pub mod Fronts
 pub mod Reads
 pub mod Started
 pub mod Tally
+pub mod Stretches

@@ -1,43 +1,45 @@
-ghost use Rattle.std.specs.Prelude.{◌≡◌, ◌≤◌, ◌++◌, ◌↔◌, ◌<◌, ℕ, List, Some, pos, false, IfSome, IsTrue, length, take, option_map, vec_len, IfOk, OnOk};
+ghost use Rattle.std.specs.Prelude.{◌≡◌, ◌≤◌, ◌++◌, ◌↔◌, ◌||◌, ℕ, List, Some, pos, false, IfSome, IsTrue, length, take, option_map, vec_len, IfOk, OnOk};
 ghost use Rattle.std.specs.Option.{option_or};
 ghost use Rattle.std.specs.Process.{SameEnv, SameOtherVars, SameProgramAndArgs, clears_env, command_args, command_program, command_var, exit_code};
 ghost use Rattle.machine_linux.specs.Started.{last_var};
-ghost use Rattle.machine.specs.Calls.{IsKept};
+ghost use Rattle.machine_linux.specs.Fronts.{IsFront};
+ghost use Rattle.machine.specs.Calls.{IsKept, is_cut, kept_output};
 ghost use Rattle.machine.specs.declared.world.Ended.TheVariants.{Code};
 
 use crate::whole::stop_of;
-use machine::{CallStop, Child, Ended, EnvVar, Exit};
+use machine::{CallStop, Child, Ended, EnvVar, Exit, KEPT_OUTPUT};
 use std::alloc::{AllocError, Global};
-use std::io::{Read, sink};
+use std::io::{PipeReader, Read, pipe, sink};
 use std::process::{Command, ExitStatus, Processes, Stdio, SystemProcess};
-use std::thread::{Threads, spawn};
+use std::rt::Files;
+use std::thread::{JoinHandle, Threads, spawn};
 use std::{io, process};
 use updater_text::{Items, Text};
 
-// How much is kept of each stream of a child, in bytes.
-const KEPT: usize = 65_536;
-
-// What a stream of a child gave: its front, and whether there was more.
+// The front of what a stream of a child gave, and whether there was more.
 #[derive(Drop)]
-struct Kept {
+struct Front {
     bytes: Vec<u8>,
     cut: bool,
-    ghost short: { vec_len bytes ≤ 65536 },
+    ghost is_front: { IsFront bytes.items cut },
 }
 
 // The front of a stream. The rest is read to its end and dropped, so that the child never waits for
-// room to write.
-fn keep_front<S: Read + Drop>(mut stream: S, mut bytes: Vec<u8>) -> io::Result<Kept>
-    ensures front { IfOk result (λ kept. IfSome (S.remaining stream) (λ xs. kept.bytes.items ≡ take 65536 (bytes.items ++ xs))) }
-    ensures cut { IfOk result (λ kept. IfSome (S.remaining stream) (λ xs. IsTrue kept.cut ↔ (65536 < length (bytes.items ++ xs)))) }
+// room to write. An error comes where the stream cannot be read.
+fn keep_front<S: Read + Drop>(mut stream: S, mut bytes: Vec<u8>) -> io::Result<Front>
+    ensures full { IfOk result (λ front. IsFront front.bytes.items front.cut) }
+    ensures front { IfOk result (λ front. IfSome (S.remaining stream) (λ xs. front.bytes.items ≡ take kept_output (bytes.items ++ xs))) }
+    ensures cut { IfOk result (λ front. IfSome (S.remaining stream) (λ xs. front.cut ≡ is_cut (bytes.items ++ xs))) }
 {
-    (&mut stream).take(KEPT as u64 + 1).read_to_end(&mut bytes)?;
-    let cut = bytes.len() > KEPT;
+    (&mut stream)
+        .take(KEPT_OUTPUT as u64 + 1)
+        .read_to_end(&mut bytes)?;
+    let cut = bytes.len() > KEPT_OUTPUT;
     if cut {
-        bytes.truncate(KEPT);
+        bytes.truncate(KEPT_OUTPUT);
         io::copy(&mut stream, &mut sink())?;
     }
-    Ok(Kept { bytes, cut })
+    Ok(Front { bytes, cut })
 }
 
 fn add_args(command: &mut Command, args: &[Text]) -> Result<(), AllocError>
@@ -73,18 +75,7 @@ fn add_vars(command: &mut Command, vars: &[EnvVar]) -> Result<(), AllocError>
     Ok(())
 }
 
-// Gives a child no input, and a pipe for each output.
-fn set_streams(command: &mut Command)
-    ensures call { SameProgramAndArgs command.old command.new }
-    ensures env { SameEnv command.old command.new }
-{
-    command
-        .stdin(Stdio::null())
-        .stdout(Stdio::piped())
-        .stderr(Stdio::piped());
-}
-
-// What starts a child.
+// What starts a child, but for its streams.
 fn command_of(alloc: Global, child: &Child) -> Result<Command, AllocError>
     ensures program { IfOk result (λ c. command_program c ≡ child.now.program) }
     ensures args { IfOk result (λ c. command_args c ≡ child.now.args) }
@@ -94,26 +85,49 @@ fn command_of(alloc: Global, child: &Child) -> Result<Command, AllocError>
     let mut command = Command::new(alloc, child.program.as_str())?;
     add_args(&mut command, child.args.as_slice())?;
     add_vars(&mut command, child.env.as_slice())?;
-    set_streams(&mut command);
     Ok(command)
 }
 
-// Reads both outputs at once, since a child may fill the one while the other is waited for.
-fn read_both<R: Threads>(
-    rt: &R,
-    started: &mut process::Child<SystemProcess>,
-    out: Vec<u8>,
-    err: Vec<u8>,
-) -> Option<(Kept, Kept)> {
-    let stdout = started.stdout.take()?;
-    let stderr = started.stderr.take()?;
-    let reader = spawn(rt, move || keep_front(stdout, out).ok()).ok()?;
-    let err = keep_front(stderr, err).ok();
-    let out = reader.join(rt)?;
-    Some((out, err?))
+// Room for the front of a stream, for one byte more, and for the read that finds the end.
+fn room(alloc: Global) -> Result<Vec<u8>, AllocError> {
+    Vec::with_capacity(alloc, KEPT_OUTPUT + 2)
 }
 
-// How a child ended that ended so.
+// What reads the two outputs of a child: a thread for the one, and for the other the pipe's end and room.
+#[derive(Drop)]
+struct Readers {
+    out: JoinHandle<Option<Front>>,
+    err: PipeReader,
+    err_room: Vec<u8>,
+}
+
+// Gives a child no input and a pipe for each output, and starts the thread that reads the one. It is
+// all that a thread, a pipe and memory are needed for, and comes before the child is started.
+fn connect<R: Files + Threads>(
+    rt: &R,
+    alloc: Global,
+    command: &mut Command,
+) -> Result<Readers, CallStop>
+    ensures call { SameProgramAndArgs command.old command.new }
+    ensures env { SameEnv command.old command.new }
+{
+    let (Ok(out_room), Ok(err_room)) = (room(alloc), room(alloc)) else {
+        return Err(CallStop::NoMemory);
+    };
+    let (Ok((out, child_out)), Ok((err, child_err))) = (pipe(rt), pipe(rt)) else {
+        return Err(CallStop::Failed);
+    };
+    let Ok(out) = spawn(rt, move || keep_front(out, out_room).ok()) else {
+        return Err(CallStop::Failed);
+    };
+    command
+        .stdin(Stdio::null())
+        .stdout(child_out)
+        .stderr(child_err);
+    Ok(Readers { out, err, err_room })
+}
+
+// Converts an exit status.
 fn ended_of(status: ExitStatus) -> Ended
     ensures { (code : ℕ) → (result ≡ Code code) ↔ (exit_code status ≡ Some (pos code)) }
 {
@@ -124,8 +138,47 @@ fn ended_of(status: ExitStatus) -> Ended
     }
 }
 
+// The exit of a child with this status and these fronts of its outputs.
+fn exit_of(status: ExitStatus, out: Front, err: Front) -> Exit
+    ensures ended { (code : ℕ) → (result.ended ≡ Code code) ↔ (exit_code status ≡ Some (pos code)) }
+    ensures out { result.out ≡ out.bytes.items }
+    ensures err { result.err ≡ err.bytes.items }
+    ensures cut { result.cut ≡ (out.cut || err.cut) }
+    ensures kept { IsKept result }
+{
+    Exit {
+        ended: ended_of(status),
+        out: Items::from_vec(out.bytes),
+        err: Items::from_vec(err.bytes),
+        cut: out.cut || err.cut,
+    }
+}
+
+// Reads both outputs of a child at once, since it may fill the one while the other is waited for, and
+// waits for its end. Where an output cannot be read the child is killed.
+fn finish<R: Threads>(
+    rt: &R,
+    mut started: process::Child<SystemProcess>,
+    readers: Readers,
+) -> Result<Exit, CallStop>
+    ensures { IfOk result IsKept }
+{
+    let err = keep_front(readers.err, readers.err_room);
+    if err.is_err() {
+        let _ = started.kill();
+    }
+    let out = readers.out.join(rt);
+    if out.is_none() {
+        let _ = started.kill();
+    }
+    match (started.wait(), out, err) {
+        (Ok(status), Some(out), Ok(err)) => Ok(exit_of(status, out, err)),
+        _ => Err(CallStop::Failed),
+    }
+}
+
 // Runs a child to its end.
-pub fn run_child<R: Processes<Started = SystemProcess> + Threads>(
+pub fn run_child<R: Files + Processes<Started = SystemProcess> + Threads>(
     rt: &R,
     alloc: Global,
     child: &Child,
@@ -135,30 +188,15 @@ pub fn run_child<R: Processes<Started = SystemProcess> + Threads>(
     let Ok(mut command) = command_of(alloc, child) else {
         return Err(CallStop::NoMemory);
     };
-    let (Ok(out), Ok(err)) = (room(alloc), room(alloc)) else {
-        return Err(CallStop::NoMemory);
-    };
-    let mut started = match command.spawn(rt) {
-        Ok(started) => started,
-        Err(error) => return Err(stop_of(&error)),
-    };
-    let Some((out, err)) = read_both(rt, &mut started, out, err) else {
-        let _ = started.kill();
-        let _ = started.wait();
-        return Err(CallStop::Failed);
-    };
-    let Ok(status) = started.wait() else {
-        return Err(CallStop::Failed);
-    };
-    Ok(Exit {
-        ended: ended_of(status),
-        out: Items::from_vec(out.bytes),
-        err: Items::from_vec(err.bytes),
-        cut: out.cut || err.cut,
-    })
-}
-
-// Room for the front of a stream, for one byte more, and for the read that finds the end.
-fn room(alloc: Global) -> Result<Vec<u8>, AllocError> {
-    Vec::with_capacity(alloc, KEPT + 2)
+    let readers = connect(rt, alloc, &mut command)?;
+    let started = command.spawn(rt);
+    // with it go this process's ends for writing, without which the readers find no end
+    drop(command);
+    match started {
+        Ok(started) => finish(rt, started, readers),
+        Err(error) => {
+            let _ = readers.out.join(rt);
+            Err(stop_of(&error))
+        }
+    }
 }

@@ -1,5 +1,5 @@
-ghost use Rattle.std.specs.Prelude.{◌≡◌, [], IfOk, IfSome, false};
-ghost use Rattle.std.specs.FinMap as map;
+ghost use Rattle.std.specs.Prelude.{◌≡◌, ◌↔◌, ◌<◌, ◌^◌, ◌/◌, IfOk, IfSome, IsSome, false, pos};
+ghost use Rattle.std.specs.Duration.{as_nanos};
 ghost use Rattle.machine.specs.Past.{nothing_told};
 ghost use Rattle.machine.specs.Calls.{Counted};
 ghost use Rattle.machine_linux.specs.Reads.{PutFront};
@@ -18,13 +18,8 @@ use std::os::unix::fs::FileExt;
 use std::process::{Processes, SystemProcess};
 use std::rt::Files;
 use std::thread::Threads;
-use std::time::{Clock, SystemTime, UNIX_EPOCH};
+use std::time::{Clock, Duration, SystemTime, UNIX_EPOCH};
 use updater_text::Items;
-
-#[cfg(test)]
-mod run_tests;
-#[cfg(test)]
-mod tests;
 
 /// A machine over the files, devices and programs of a system. It tells no world. Contracts see its
 /// two counts.
@@ -41,8 +36,9 @@ mod tests;
 /// whole MiB, the kernel is advised that this MiB is not needed any more, on which Linux begins to write
 /// it back (though it does not promise to), so that a sync has little to wait for.
 ///
-/// A file that is to replace another is written beside it, with `.new` after its name. A child has
-/// the variables of this process and those that it is given, no input, and no other open file.
+/// A file that is to replace another is written beside it, as a new file with a number and `.new` after
+/// the name, and takes over its owner and mode where the system allows that. A child has the variables
+/// of this process and those that it is given, no input, and no other open file.
 #[derive(Drop)]
 pub struct Linux<R: Files + Drop> {
     rt: R,
@@ -76,8 +72,8 @@ impl<R: Files + Drop> Linux<R> {
         }
     }
 
-    // Counts how a call ended, and answers that.
-    fn counted<T>(&mut self, outcome: Result<T, CallStop>) -> Result<T, CallStop>
+    // Counts a call that failed or was out of memory, and hands its outcome on.
+    fn count_outcome<T>(&mut self, outcome: Result<T, CallStop>) -> Result<T, CallStop>
         ensures same { result ≡ outcome }
         ensures tally { self.new ≡ tally_after self.old outcome }
         ensures counts { Counted self.old.faults self.new.faults self.old.wants self.new.wants result }
@@ -174,18 +170,23 @@ where
     }
 }
 
-// The seconds since 1970.
-fn seconds<C: Clock>(clock: &C) -> Result<i64, CallStop> {
+// The whole seconds of a duration; None from 2^63 seconds on.
+fn whole_seconds(duration: Duration) -> Option<i64>
+    ensures fits { IsSome result ↔ (as_nanos duration / 1_000_000_000 < 2 ^ 63) }
+    ensures seconds { IfSome result (λ seconds. seconds ≡ pos (as_nanos duration / 1_000_000_000)) }
+{
+    i64::try_from(duration.as_secs()).ok()
+}
+
+// The seconds since 1970 that a clock tells.
+fn read_clock<C: Clock>(clock: &C) -> Result<i64, CallStop> {
     let Ok(time) = SystemTime::now(clock) else {
         return Err(CallStop::Failed);
     };
     let Ok(since) = time.duration_since(UNIX_EPOCH) else {
         return Err(CallStop::Failed);
     };
-    match i64::try_from(since.as_secs()) {
-        Ok(seconds) => Ok(seconds),
-        Err(_) => Err(CallStop::Failed),
-    }
+    whole_seconds(since).ok_or(CallStop::Failed)
 }
 
 impl<R: Files + Processes<Started = SystemProcess> + Threads + Clock + Drop> Machine for Linux<R>
@@ -194,7 +195,7 @@ where
 {
     ghost tells = { false };
 
-    ghost past = { λ _. nothing_told (record { disks = []; pending = []; writes = []; files = []; vars = map.empty; runs = []; fetched = 0 }) };
+    ghost past = { λ _. nothing_told };
 
     ghost faults = { λ m. m.faults };
 
@@ -207,7 +208,7 @@ where
         limit: u64,
     ) -> Result<Option<Items<u8>>, ReadStop> {
         let outcome = read_whole(&self.rt, alloc, path, limit);
-        match self.counted(outcome) {
+        match self.count_outcome(outcome) {
             Ok(Found::Missing) => Ok(None),
             Ok(Found::Whole(bytes)) => Ok(Some(bytes)),
             Ok(Found::TooLong(length)) => Err(ReadStop::TooLong { length }),
@@ -218,35 +219,35 @@ where
 
     fn size(&mut self, path: &str, _disk: bool) -> Result<Option<u64>, CallStop> {
         let outcome = length_of(&self.rt, path);
-        self.counted(outcome)
+        self.count_outcome(outcome)
     }
 
     fn read_at(&mut self, path: &str, at: u64, into: &mut [u8]) -> Result<usize, CallStop> {
         let outcome = self.read_some(path, at, into);
-        self.counted(outcome)
+        self.count_outcome(outcome)
     }
 
     fn write_at(&mut self, path: &str, at: u64, from: &[u8]) -> Result<(), CallStop> {
         let outcome = self.write_all(path, at, from);
-        self.counted(outcome)
+        self.count_outcome(outcome)
     }
 
     fn sync(&mut self, path: &str) -> Result<(), CallStop> {
         let outcome = self.sync_target(path);
-        self.counted(outcome)
+        self.count_outcome(outcome)
     }
 
     fn file_replace(&mut self, path: &str, bytes: &[u8]) -> Result<(), CallStop> {
         self.let_go(path);
         let outcome = replace_file(&self.rt, self.alloc, path, bytes);
-        self.counted(outcome)
+        self.count_outcome(outcome)
     }
 
     fn run(&mut self, alloc: Global, child: &Child) -> Result<Exit, RunStop> {
         self.source = None;
         self.target = None;
         let outcome = run_child(&self.rt, alloc, child);
-        match self.counted(outcome) {
+        match self.count_outcome(outcome) {
             Ok(exit) => Ok(exit),
             Err(CallStop::Failed) => Err(RunStop::Failed),
             Err(CallStop::NoMemory) => Err(RunStop::NoMemory),
@@ -254,7 +255,7 @@ where
     }
 
     fn now(&mut self) -> Result<i64, CallStop> {
-        let outcome = seconds(&self.rt);
-        self.counted(outcome)
+        let outcome = read_clock(&self.rt);
+        self.count_outcome(outcome)
     }
 }

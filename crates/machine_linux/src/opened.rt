@@ -1,6 +1,7 @@
-ghost use Rattle.std.specs.Prelude.{◌≡◌, ◌↔◌, ◌<◌, ◌-◌, min, length, IfOk, IfSome, IsTrue};
+ghost use Rattle.std.specs.Prelude.{◌≡◌, ◌↔◌, ◌<◌, ◌-◌, ◌+◌, min, length, pos, IfOk, IfSome, IsSome, IsTrue};
 ghost use Rattle.std.specs.IoError.{error_kind};
 ghost use Rattle.machine_linux.specs.Reads.{NamesNothing, PutFront};
+ghost use Rattle.machine_linux.specs.Stretches.{EndsStretch, stretch};
 
 use machine::CallStop;
 use std::alloc::Global;
@@ -17,6 +18,17 @@ const TAIL: usize = 4096;
 
 // How much is written before the kernel is advised to begin with it, in bytes.
 const STRETCH: u64 = 1 << 20;
+
+// Where the whole stretch starts that ends at this offset; None where none does.
+fn stretch_start(end: u64) -> Option<i64>
+    ensures ends { IsSome result ↔ EndsStretch end }
+    ensures start { IfSome result (λ start. start ≡ pos (end - stretch)) }
+{
+    if end == 0 || end % STRETCH != 0 {
+        return None;
+    }
+    i64::try_from(end - STRETCH).ok()
+}
 
 // A file that stays open between calls.
 #[derive(Drop)]
@@ -103,11 +115,9 @@ impl<F: FileExt + AsRawFd> Opened<F> {
     // them ends there. Linux begins to write them back then, where else it may begin only at the sync,
     // which waits for all of it.
     fn start_writing(&self, end: u64) {
-        if end % STRETCH == 0 {
-            if let Ok(start) = i64::try_from(end.saturating_sub(STRETCH)) {
-                let fd = self.file.as_raw_fd();
-                let _ = libc::posix_fadvise(fd, start, STRETCH as i64, libc::POSIX_FADV_DONTNEED);
-            }
+        if let Some(start) = stretch_start(end) {
+            let fd = self.file.as_raw_fd();
+            let _ = libc::posix_fadvise(fd, start, STRETCH as i64, libc::POSIX_FADV_DONTNEED);
         }
     }
 }

@@ -1,5 +1,6 @@
-pub mod Checking
+pub mod Commands
 pub mod Ending
-pub mod Putting
+pub mod Finishing
+pub mod Loading
 pub mod Sparing
 pub mod Stopping

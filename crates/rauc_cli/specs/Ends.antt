@@ -1,96 +1,115 @@
 -- How the program ends.
 use Rattle.std.specs.Prelude.{◌≡◌, ◌≤◌, ◌⊎◌, ℕ, Bool, IsTrue, List, Option, Some, None, Result, Ok, Err, IfOk}
-use Rattle.updater_text.specs.Counts.{Rose}
-use Rattle.updater_text.specs.Sinks.{Shown, Told}
+use Rattle.updater_text.specs.Counts.{CountRose}
+use Rattle.updater_text.specs.Sinks.{Shown, WritesBoth}
 use Rattle.updater_text.specs.declared.stops.NoMemory.{NoMemory}
-use Rattle.updater_text.specs.declared.stops.Stop.{Stop}
-use Rattle.updater_text.specs.declared.stops.Stop.TheVariants as stop
 use Rattle.updater_text.specs.declared.digest.Digest.{Digest}
+use Rattle.machine.specs.declared.stops.Stop.{Stop}
+use Rattle.machine.specs.declared.stops.Stop.TheVariants as stop
 use Rattle.machine.specs.declared.world.World.{World}
-use Rattle.machine.specs.Past.{Past, now, Always, Held, failed_since}
+use Rattle.machine.specs.Past.{Past, Always, Held, world_now}
+use Rattle.rauc_words.specs.Table.{command_of, conf_path}
 use Rattle.rauc_words.specs.declared.asked.Asked.{Asked}
-use Rattle.rauc_words.specs.declared.asked.Asked.TheVariants.{Help, Run}
+use Rattle.rauc_words.specs.declared.asked.Asked.TheVariants as asked
 use Rattle.rauc_words.specs.declared.asked.Command.{Command}
 use Rattle.rauc_words.specs.declared.asked.Command.TheVariants.{WriteSlot}
-use Rattle.rauc_cli.specs.declared.outcome.SlotRefusal.{SlotRefusal}
-use Rattle.rauc_cli.specs.declared.outcome.SlotWritten.{SlotWritten}
+use Rattle.rauc_words.specs.declared.asked.Run.{Run}
+use Rattle.system_conf.specs.declared.slot.Slot.{Slot}
+use Rattle.slot_writer.specs.declared.refusal.SlotRefusal.{SlotRefusal}
+use Rattle.slot_writer.specs.declared.refusal.SlotWritten.{SlotWritten}
+use Rattle.running_system.specs.Running.{RunningKept}
+use Rattle.rauc_cli.specs.declared.conf.NoSystem.TheVariants.{Missing, Bad}
 use Rattle.rauc_cli.specs.declared.outcome.Outcome.{Outcome}
 use Rattle.rauc_cli.specs.declared.outcome.Outcome.TheVariants as end
 use Rattle.rauc_cli.specs.declared.outcome.Report.{Report}
 use Rattle.rauc_cli.specs.declared.outcome.Finish.{Finish}
-use Rattle.rauc_cli.specs.Lines.{failed, help_report, memory_report, outside, usage_report, written_report}
-use Rattle.rauc_cli.specs.Checks.{RunningKept}
-use Rattle.rauc_cli.specs.Plans.{Plan, Kept, Left, Safe, booted_for, report_of, slots_for}
+use Rattle.rauc_cli.specs.Lines.{help_report, memory_report, no_system_report, outside, slot_refusal_report, usage_report, written_report}
+use Rattle.rauc_cli.specs.Plans.{Plan, AfterAStop, AtTheEnd, OnTheWay, booted_for, fault_in, plan_of, planned_report, report_of, slots_for}
 
--- every end but those where all was done that the words ask for
-abbrev pub IsFailure : Outcome → Type 0
-IsFailure end.Done = ⊥
-IsFailure end.Help = ⊥
-IsFailure outcome = Unit {0}
+-- ---- texts: told or not, a report's texts are those of its outcome
 
--- what a command says where it did its work
-abbrev pub SpeaksDone : Command → Report → Type 0
-SpeaksDone (WriteSlot place slot image) report = (size : ℕ) × (digest : Digest) × (report ≡ written_report slot size digest.0)
+-- write-slot, by the outcome
+abbrev pub SlotTexts : List ℕ → List ℕ → Outcome → Report → Type 0
+SlotTexts slot image end.Done report = (size : ℕ) × (digest : Digest) × (report ≡ written_report slot size digest.0)
+SlotTexts slot image (end.Slot refusal) report = (slots : List Slot) × (report ≡ slot_refusal_report slots image refusal)
+SlotTexts slot image (end.Outside kind) report = report ≡ outside kind
+SlotTexts slot image outcome report = ⊥
 
-abbrev pub SpeaksOf : Command → Outcome → Report → Type 0
-SpeaksOf command end.Done report = SpeaksDone command report
-SpeaksOf command outcome report = report ≡ failed command outcome
+-- each command
+abbrev pub CommandTexts : Command → Report → Type 0
+CommandTexts (WriteSlot slot image) report = SlotTexts slot image report.outcome report
 
--- told or not, a report's texts are those of its outcome
-abbrev pub Speaks : Option Asked → Report → Type 0
-Speaks (Some (Run command)) report = SpeaksOf command report.outcome report
-Speaks (Some Help) report = report ≡ help_report
-Speaks None report = report ≡ usage_report
+-- a command, or the lack of a system for it
+abbrev pub RunTexts : Run → Outcome → Report → Type 0
+RunTexts run end.NoConfig report = report ≡ no_system_report (conf_path run.place) Missing
+RunTexts run (end.BadConfig refusal) report = report ≡ no_system_report (conf_path run.place) (Bad refusal)
+RunTexts run (end.Outside kind) report = report ≡ outside kind
+RunTexts run outcome report = CommandTexts run.command report
 
--- the command is write-slot with this slot and image
-abbrev pub Names : Command → List ℕ → List ℕ → Type 0
-Names (WriteSlot place slot image) name path = (slot ≡ name) × (image ≡ path)
+-- what words ask for: `Help` exactly for help, and `Usage` exactly for words that ask for nothing
+abbrev pub HasTexts : Option Asked → Report → Type 0
+HasTexts (Some (asked.Run run)) report = RunTexts run report.outcome report
+HasTexts (Some asked.Help) report = report ≡ help_report
+HasTexts None report = report ≡ usage_report
 
--- what is reported of write-slot
-abbrev pub SlotSays : Command → List ℕ → Result SlotWritten (Stop SlotRefusal) → Result Report NoMemory → Type 0
-SlotSays command slot (Ok written) (Ok report) = report ≡ written_report slot written.size written.digest.0
-SlotSays command slot (Err (stop.Refused refusal)) (Ok report) = report ≡ failed command (end.Slot refusal)
-SlotSays command slot (Err (stop.Outside kind)) (Ok report) = report ≡ outside kind
-SlotSays command slot (Err stop.NoMemory) (Ok report) = ⊥
-SlotSays command slot result (Err memory) = Unit {0}
+-- ---- counts
 
--- told or not: `Help` comes exactly where the words ask for help, `Usage` exactly where they ask for nothing, and a fault of the outside only where the count of faults rose
-abbrev pub Caused : Option Asked → ℕ → ℕ → Outcome → Type 0
-Caused (Some (Run command)) faults faults' end.Help = ⊥
-Caused (Some (Run command)) faults faults' end.Usage = ⊥
-Caused (Some (Run command)) faults faults' (end.Outside kind) = Rose faults faults'
-Caused (Some (Run command)) faults faults' outcome = faults ≤ faults'
-Caused (Some Help) faults faults' end.Help = faults ≤ faults'
-Caused (Some Help) faults faults' end.NoMemory = faults ≤ faults'
-Caused (Some Help) faults faults' outcome = ⊥
-Caused None faults faults' end.Usage = faults ≤ faults'
-Caused None faults faults' end.NoMemory = faults ≤ faults'
-Caused None faults faults' outcome = ⊥
+-- counts never fall, and a fault of the outside is answered only where that of faults rose
+abbrev pub OutcomeCounted : ℕ → ℕ → ℕ → ℕ → Outcome → Type 0
+OutcomeCounted faults faults' wants wants' (end.Outside kind) = CountRose faults faults' × (wants ≤ wants')
+OutcomeCounted faults faults' wants wants' outcome = (faults ≤ faults') × (wants ≤ wants')
 
--- the outcome of a call that has a report, or wanted memory for one
+-- the outcome of a call that has a report, or ran out of memory for one
 abbrev pub outcome_in : Result Report NoMemory → Outcome
 outcome_in (Ok report) = report.outcome
 outcome_in (Err memory) = end.NoMemory
 
--- a plan was carried out, with this report, or memory was wanting
-pub record Ended (tells : Bool) (plan : Plan) (old new : Past) (result : Result Report NoMemory) : Type 0 where
-  pub kept : IsTrue tells → Always old new (Kept plan (now old))
-  pub reported : IsTrue tells → IfOk result (λ report. report ≡ report_of plan (failed_since old new))
-  pub left : IsTrue tells → IfOk result (λ report. failed_since old new ≡ None → Left plan (now old) (now new))
+-- ---- a command
 
--- the program ended so: its outcome and both texts are one report, which went to the sinks; the world was kept on the way, stands as planned where all was done, and is safe wherever the power stops; what runs keeps its bytes
-pub record Finished (tells : Bool) (asked : Option Asked) (plan : Plan) (old new : Past) (out out' err err' : Shown) (finish : Finish) : Type 0 where
+-- what is reported of write-slot
+abbrev pub SaysSlot : List Slot → List ℕ → List ℕ → Result SlotWritten (Stop SlotRefusal) → Result Report NoMemory → Type 0
+SaysSlot slots slot image (Ok written) (Ok report) = report ≡ written_report slot written.size written.digest.0
+SaysSlot slots slot image (Err (stop.Refused refusal)) (Ok report) = report ≡ slot_refusal_report slots image refusal
+SaysSlot slots slot image (Err (stop.Outside kind)) (Ok report) = report ≡ outside kind
+SaysSlot slots slot image (Err stop.NoMemory) (Ok report) = ⊥
+SaysSlot slots slot image written (Err memory) = Unit {0}
+
+-- a plan was carried out, with this report, or memory ran out
+pub record Ended (tells : Bool) (plan : Plan) (old new : Past) (result : Result Report NoMemory) : Type 0 where
+  pub on_the_way : IsTrue tells → Always old new (OnTheWay plan.effect (world_now old))
+  pub reported : IsTrue tells → IfOk result (λ report. report ≡ planned_report plan old new)
+  pub at_the_end : IsTrue tells → IfOk result (λ report. fault_in plan old new ≡ None → AtTheEnd plan.effect (world_now old) (world_now new))
+
+-- ---- the program; a pair has what stands before the call and what stands after it
+
+-- the outcome and what went to the two sinks are one report: its texts are those of its outcome, and where told it is the planned one, unless memory ran out
+pub record Reports (tells : Bool) (words : List (List ℕ)) (past : Past × Past) (out err : Shown × Shown) (finish : Finish) : Type 0 where
   pub report : Report
   pub outcome : finish.outcome ≡ report.outcome
-  pub told : Told out out' err err' report.out report.err finish.told
-  pub spoken : (report ≡ memory_report) ⊎ Speaks asked report
-  pub reported : IsTrue tells → (report ≡ memory_report) ⊎ (report ≡ report_of plan (failed_since old new))
-  pub kept : IsTrue tells → Always old new (Kept plan (now old))
-  pub left : IsTrue tells → finish.outcome ≡ end.Done → Left plan (now old) (now new)
-  pub held : IsTrue tells → (v : World) → Held old new v → Safe plan (now old) v
-  pub running : RunningKept tells (slots_for asked (now old)) (booted_for asked (now old)) old new
+  pub put : WritesBoth out.0 out.1 err.0 err.1 report.out report.err finish.told
+  pub texts : (report ≡ memory_report) ⊎ HasTexts (command_of words) report
+  pub planned : IsTrue tells → (report ≡ memory_report) ⊎ (report ≡ planned_report (plan_of words past.0 past.1) past.0 past.1)
 
--- where told and no call failed, the end is the plan's own, unless memory was wanting
-abbrev pub Complete : Bool → Plan → ℕ → ℕ → Outcome → Type 0
-Complete tells plan faults faults' outcome =
-    IsTrue tells → (Rose faults faults' → ⊥) → (outcome ≡ end.NoMemory) ⊎ (outcome ≡ (report_of plan None).outcome)
+-- where told: each world since, inside the calls too, is on the way of the plan, and where all was done the end is the plan's
+pub record CarriesOut (tells : Bool) (words : List (List ℕ)) (past : Past × Past) (outcome : Outcome) : Type 0 where
+  pub on_the_way : IsTrue tells → Always past.0 past.1 (OnTheWay (plan_of words past.0 past.1).effect (world_now past.0))
+  pub at_the_end : IsTrue tells → outcome ≡ end.Done → AtTheEnd (plan_of words past.0 past.1).effect (world_now past.0) (world_now past.1)
+
+-- where told, and wherever the power stops: only what the plan may change has changed, and what runs keeps its bytes
+pub record StandsAStop (tells : Bool) (words : List (List ℕ)) (past : Past × Past) : Type 0 where
+  pub held : IsTrue tells → (v : World) → Held past.0 past.1 v → AfterAStop (plan_of words past.0 past.1).effect (world_now past.0) v
+  pub running : RunningKept tells (slots_for (command_of words) (world_now past.0)) (booted_for (command_of words) (world_now past.0)) past.0 past.1
+
+-- told or not: `Help` comes exactly where the words ask for help, and `Usage` exactly where they ask for nothing
+abbrev pub AsksFor : Option Asked → Outcome → Type 0
+AsksFor (Some (asked.Run run)) end.Help = ⊥
+AsksFor (Some (asked.Run run)) end.Usage = ⊥
+AsksFor (Some (asked.Run run)) outcome = Unit {0}
+AsksFor (Some asked.Help) outcome = (outcome ≡ end.Help) ⊎ (outcome ≡ end.NoMemory)
+AsksFor None outcome = (outcome ≡ end.Usage) ⊎ (outcome ≡ end.NoMemory)
+
+-- why the program ends so: by its words; with a fault only where one was counted; and where none was, and memory did not run out, as planned
+pub record HasCause (tells : Bool) (words : List (List ℕ)) (past : Past × Past) (faults wants : ℕ × ℕ) (outcome : Outcome) : Type 0 where
+  pub asked : AsksFor (command_of words) outcome
+  pub counted : OutcomeCounted faults.0 faults.1 wants.0 wants.1 outcome
+  pub complete : IsTrue tells → (CountRose faults.0 faults.1 → ⊥) → (outcome ≡ end.NoMemory) ⊎ (outcome ≡ (plan_of words past.0 past.1).report.outcome)

@@ -1,7 +1,4 @@
-pub mod Archives
-pub mod Checks
 pub mod Conf
 pub mod Ends
 pub mod Lines
 pub mod Plans
-pub mod Slots

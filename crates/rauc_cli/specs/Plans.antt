@@ -1,110 +1,126 @@
--- What a call of the program comes to, from its words and the world at its begin.
-use Rattle.std.specs.Prelude.{◌≡◌, ◌<◌, ℕ, false, List, [], Option, Some, None, Result, Ok, Err}
-use Rattle.updater_text.specs.declared.stops.Fault.{Fault}
+-- What a call of the program comes to, from its words and from the past since its start.
+use Rattle.std.specs.Prelude.{◌≡◌, ◌<◌, ℕ, Bool, false, List, [], ◌∷◌, ◌++◌, Option, Some, None, Result, Ok, Err, if◌then◌else◌}
+use Rattle.machine.specs.declared.stops.Fault.{Fault}
 use Rattle.machine.specs.declared.world.World.{World}
-use Rattle.machine.specs.World.{file, disk_length, disk_byte}
-use Rattle.machine.specs.Crash.{is_in}
-use Rattle.machine.specs.Frames.{OnlyIn}
+use Rattle.machine.specs.Past.{Call, Moment, Past, failed_or, kind_of, moments_since, world_now}
+use Rattle.machine.specs.Frames.{DiffersOnlyIn, InRange, SameBut}
 use Rattle.raw_writer.specs.Whole.{IsWritten}
 use Rattle.rauc_words.specs.declared.asked.Asked.{Asked}
-use Rattle.rauc_words.specs.declared.asked.Asked.TheVariants.{Help, Run}
+use Rattle.rauc_words.specs.declared.asked.Asked.TheVariants as asked
 use Rattle.rauc_words.specs.declared.asked.Command.{Command}
 use Rattle.rauc_words.specs.declared.asked.Command.TheVariants.{WriteSlot}
+use Rattle.rauc_words.specs.declared.asked.Run.{Run}
 use Rattle.rauc_words.specs.Table.{command_of, conf_path}
-use Rattle.system_conf.specs.Refusals.{Configuration}
-use Rattle.rauc_cli.specs.declared.conf.BadConf.{BadConf}
-use Rattle.rauc_cli.specs.declared.outcome.SlotRefusal.{SlotRefusal}
-use Rattle.rauc_cli.specs.declared.outcome.SlotWritten.{SlotWritten}
-use Rattle.rauc_cli.specs.declared.outcome.Outcome.TheVariants as end
-use Rattle.rauc_cli.specs.declared.outcome.Report.{Report}
+use Rattle.system_conf.specs.Configuration.{Configuration}
 use Rattle.system_conf.specs.declared.slot.Slot.{Slot}
 use Rattle.slot_graph.specs.declared.state.Booted.{Booted}
-use Rattle.rauc_cli.specs.Conf.{conf_of}
-use Rattle.rauc_cli.specs.Checks.{booted_in}
-use Rattle.rauc_cli.specs.Slots.{piece, slot_answer, slot_device}
-use Rattle.rauc_cli.specs.Lines.{failed, help_report, outside, usage_report, written_report}
+use Rattle.slot_writer.specs.declared.refusal.SlotRefusal.{SlotRefusal}
+use Rattle.slot_writer.specs.declared.refusal.SlotWritten.{SlotWritten}
+use Rattle.running_system.specs.Running.{what_runs}
+use Rattle.slot_writer.specs.Slots.{piece, slot_answer, slot_device}
+use Rattle.rauc_cli.specs.declared.conf.NoSystem.{NoSystem}
+use Rattle.rauc_cli.specs.declared.outcome.Report.{Report}
+use Rattle.rauc_cli.specs.Conf.{system_at}
+use Rattle.rauc_cli.specs.Lines.{fault_report, help_report, no_system_report, slot_refusal_report, usage_report, written_report}
 
--- a plan: to change nothing, and to report this; or to write an image to the front of a slot's device
-pub data Plan : Type 0 where
-  Stay : (report : Report) → Plan
-  Write : (slot image device : List ℕ) (written : SlotWritten) → Plan
+-- ---- effects: what a command may change
+
+-- nothing, or the front of a device
+pub data Effect : Type 0 where
+  Nothing : Effect
+  Front : (image device : List ℕ) (written : SlotWritten) → Effect
+
+-- each world u on the way, inside the calls too
+abbrev pub OnTheWay : Effect → World → World → Type 0
+OnTheWay Nothing w u = u ≡ w
+OnTheWay (Front image device written) w u = DiffersOnlyIn device 0 written.size w u
+
+-- the world v at the end, where all was done
+abbrev pub AtTheEnd : Effect → World → World → Type 0
+AtTheEnd Nothing w v = v ≡ w
+AtTheEnd (Front image device written) w v = IsWritten image device piece written.size written.digest w v
+
+-- the world v that a stop of the power may leave
+abbrev pub AfterAStop : Effect → World → World → Type 0
+AfterAStop Nothing w v = SameBut (λ path i. ⊥) w v
+AfterAStop (Front image device written) w v = SameBut (InRange device 0 written.size) w v
+
+-- ---- plans: what is reported, and what may be changed
+
+-- what is reported where no call failed; the lines on out and the warnings on err that stand also where one did; the calls whose failure changes none of that; and what may be changed
+pub record Plan : Type 0 where
+  pub report : Report
+  pub notes : List ℕ
+  pub warnings : List ℕ
+  pub passes : Call → Bool
+  pub effect : Effect
+
+-- to report this, with no lines beside it, and each call that fails counts
+abbrev pub to_report : Report → Effect → Plan
+to_report report effect = record { report = report; notes = []; warnings = []; passes = λ call. false; effect = effect }
+
+-- the kind of the first of these calls that failed, those passed over apart
+abbrev pub first_fault : (Call → Bool) → List Moment → Option Fault
+first_fault passes [] = None
+first_fault passes (m ∷ ms) = if passes m.call then first_fault passes ms else failed_or m.end (kind_of m.call) (first_fault passes ms)
+
+-- the kind of the first call since old that failed
+abbrev pub fault_in : Plan → Past → Past → Option Fault
+fault_in plan old new = first_fault plan.passes (moments_since old new)
+
+-- what is reported, with the kind of the first call that failed
+abbrev pub report_of : Plan → Option Fault → Report
+report_of plan None = plan.report
+report_of plan (Some kind) = fault_report plan.notes plan.warnings kind
+
+-- the same by the past since old
+abbrev pub planned_report : Plan → Past → Past → Report
+planned_report plan old new = report_of plan (fault_in plan old new)
+
+-- ---- the plan of each command
 
 -- write-slot, by its answer
-abbrev pub slot_plan : Command → List ℕ → List ℕ → List ℕ → Result SlotWritten SlotRefusal → Plan
-slot_plan command slot image device (Ok written) = Write slot image device written
-slot_plan command slot image device (Err refusal) = Stay (failed command (end.Slot refusal))
+abbrev pub slot_plan : List Slot → List ℕ → List ℕ → Result SlotWritten SlotRefusal → Plan
+slot_plan slots slot image (Ok written) = to_report (written_report slot written.size written.digest.0) (Front image (slot_device slots slot) written)
+slot_plan slots slot image (Err refusal) = to_report (slot_refusal_report slots image refusal) Nothing
 
--- each command, with its configuration
-abbrev pub command_plan : World → Configuration → Command → Plan
-command_plan w system (WriteSlot place slot image) =
-    slot_plan (WriteSlot place slot image) slot image (slot_device system.slots slot) (slot_answer system.slots place.given slot image w)
+-- each command, with its configuration and the name that counts as booted, where one is given
+abbrev pub command_plan : Past → Past → Configuration → Option (List ℕ) → Command → Plan
+command_plan old new system given (WriteSlot slot image) =
+    slot_plan system.slots slot image (slot_answer system.slots given slot image (world_now old))
 
-abbrev pub conf_plan : World → Command → Result Configuration BadConf → Plan
-conf_plan w command (Ok system) = command_plan w system command
-conf_plan w command (Err refusal) = Stay (failed command (end.BadConfig refusal))
+-- a command, where its configuration can be had
+abbrev pub system_plan : Past → Past → Run → Result Configuration NoSystem → Plan
+system_plan old new run (Ok system) = command_plan old new system run.place.given run.command
+system_plan old new run (Err refusal) = to_report (no_system_report (conf_path run.place) refusal) Nothing
 
-abbrev pub file_plan : World → Command → Option (List ℕ) → Plan
-file_plan w command None = Stay (failed command end.NoConfig)
-file_plan w command (Some bytes) = conf_plan w command (conf_of bytes)
+abbrev pub asked_plan : Past → Past → Option Asked → Plan
+asked_plan old new None = to_report usage_report Nothing
+asked_plan old new (Some asked.Help) = to_report help_report Nothing
+asked_plan old new (Some (asked.Run run)) = system_plan old new run (system_at (world_now old) (conf_path run.place))
 
-abbrev pub words_plan : World → Option Asked → Plan
-words_plan w None = Stay usage_report
-words_plan w (Some Help) = Stay help_report
-words_plan w (Some (Run command)) = file_plan w command (file w (conf_path command))
+-- what words come to
+abbrev pub plan_of : List (List ℕ) → Past → Past → Plan
+plan_of words old new = asked_plan old new (command_of words)
 
--- the plan: words that ask for something, and of a command its configuration's file, then what that says, then the command
-abbrev pub plan_of : List (List ℕ) → World → Plan
-plan_of words w = words_plan w (command_of words)
+-- ---- what runs
 
--- the slots of the configuration that words name, in a world: none where there is none, or it is refused
-abbrev pub slots_by : Result Configuration BadConf → List Slot
+abbrev pub slots_by : Result Configuration NoSystem → List Slot
 slots_by (Ok system) = system.slots
 slots_by (Err refusal) = []
 
-abbrev pub slots_in : Option (List ℕ) → List Slot
-slots_in (Some bytes) = slots_by (conf_of bytes)
-slots_in None = []
-
+-- the slots of the configuration that words name: none where there is none, or it is refused
 abbrev pub slots_for : Option Asked → World → List Slot
-slots_for (Some (Run command)) w = slots_in (file w (conf_path command))
-slots_for (Some Help) w = []
+slots_for (Some (asked.Run run)) w = slots_by (system_at w (conf_path run.place))
+slots_for (Some asked.Help) w = []
 slots_for None w = []
 
 -- the name that counts as booted, where words give one
 abbrev pub given_by : Option Asked → Option (List ℕ)
-given_by (Some (Run (WriteSlot place slot image))) = place.given
-given_by (Some Help) = None
+given_by (Some (asked.Run run)) = run.place.given
+given_by (Some asked.Help) = None
 given_by None = None
 
 -- what is booted in a world, as far as words name a configuration
 abbrev pub booted_for : Option Asked → World → Booted
-booted_for asked w = booted_in (slots_for asked w) (given_by asked) w
-
--- what is reported in the end, with the kind of the first call that failed
-abbrev pub report_of : Plan → Option Fault → Report
-report_of plan (Some kind) = outside kind
-report_of (Stay report) None = report
-report_of (Write slot image device written) None = written_report slot written.size written.digest.0
-
--- each world since, inside the calls too
-abbrev pub Kept : Plan → World → World → Type 0
-Kept (Stay report) w u = u ≡ w
-Kept (Write slot image device written) w u = OnlyIn device 0 written.size w u
-
--- the world in the end, where all was done
-abbrev pub Left : Plan → World → World → Type 0
-Left (Stay report) w v = v ≡ w
-Left (Write slot image device written) w v = IsWritten image device piece written.size written.digest w v
-
--- the bytes of the disks that a plan may change
-abbrev pub Touches : Plan → List ℕ → ℕ → Type 0
-Touches (Stay report) path i = ⊥
-Touches (Write slot image device written) path i = (path ≡ device) × (i < written.size)
-
--- v, which a stop left, is w but for bytes that the plan touches, and for bytes that were pending in w
-pub record Safe (plan : Plan) (w v : World) : Type 0 where
-  pub files : v.files ≡ w.files
-  pub vars : v.vars ≡ w.vars
-  pub runs : v.runs ≡ w.runs
-  pub lengths : (path : List ℕ) → disk_length v path ≡ disk_length w path
-  pub bytes : (path : List ℕ) (i : ℕ) → (Touches plan path i → ⊥) → is_in w.pending path i ≡ false → disk_byte v path i ≡ disk_byte w path i
+booted_for asked w = what_runs (slots_for asked w) (given_by asked) w

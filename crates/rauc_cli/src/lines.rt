@@ -1,15 +1,14 @@
-ghost use Rattle.std.specs.Prelude.{◌≡◌, ◌++◌, IfOk, Some, codes, string_bytes};
-ghost use Rattle.rauc_cli.specs.Lines.{cause_of, conf_cause, failed, failing, fault_word, help_report, image_path, slot_name, key_cause, place_cause, put_cause, refusal_cause, slot_cause, written_head, written_line, written_report};
-ghost use Rattle.rauc_cli.specs.Ends.{IsFailure, Speaks};
-ghost use Rattle.rauc_words.specs.declared.asked.Asked.TheVariants.{Run};
+ghost use Rattle.std.specs.Prelude.{◌≡◌, ◌++◌, IfOk, codes, string_bytes};
+ghost use Rattle.rauc_cli.specs.Lines.{bad_conf_cause, error_report, fault_word, help_report, no_system_report, outside, slot_refusal_report, system_cause, system_outcome, usage_report, written_head, written_line, written_report};
 
 use crate::outcome::Report;
-use crate::{BadConf, Command, Outcome, SlotRefusal};
-use keyfile::KeyFault;
-use raw_writer::PutRefusal;
+use crate::{BadConf, NoSystem, Outcome};
+use keyfile::key_cause;
+use machine::Fault;
+use slot_writer::{SlotRefusal, slot_cause};
 use std::alloc::{AllocError, Global};
-use system_conf::ConfRefusal;
-use updater_text::{Digest, Fault, NoMemory, Text};
+use system_conf::{System, conf_cause};
+use updater_text::{Digest, NoMemory, Text};
 
 /// What `--help` prints.
 const HELP: &str =
@@ -76,199 +75,45 @@ fn fault_word(kind: Fault) -> &'static str
     }
 }
 
-// The name of the command's slot.
-fn slot_name(command: &Command) -> &str
-    ensures { result.now ≡ slot_name command.now }
-{
-    match command {
-        Command::WriteSlot { slot, .. } => slot.as_str(),
-    }
-}
-
-// The path of the command's image.
-fn image_path(command: &Command) -> &str
-    ensures { result.now ≡ image_path command.now }
-{
-    match command {
-        Command::WriteSlot { image, .. } => image.as_str(),
-    }
-}
-
-// What is wrong with a key file.
-fn key_cause(alloc: Global, fault: &KeyFault) -> Result<String, AllocError>
-    ensures { IfOk result (λ t. string_bytes t ≡ key_cause fault.now) }
-{
-    match fault {
-        KeyFault::TooLong { length } => {
-            format!(in alloc; "configuration: {length} bytes are too long")
-        }
-        KeyFault::NotUtf8 { at } => format!(in alloc; "configuration: byte {at} is not UTF-8"),
-        KeyFault::BadLine { number } => format!(in alloc; "configuration: line {number} is bad"),
-        KeyFault::KeyBeforeGroup { number } => {
-            format!(in alloc; "configuration: line {number} stands before a group")
-        }
-        KeyFault::BadEscape { number } => {
-            format!(in alloc; "configuration: line {number} has a bad escape")
-        }
-    }
-}
-
-// What is the matter with a group, where the key is empty, or with a key of it.
-fn place_cause(alloc: Global, group: &Text, key: &Text, matter: &str) -> Result<String, AllocError>
-    ensures { IfOk result (λ t. string_bytes t ≡ place_cause group.now key.now matter.now) }
-{
-    let group = group.as_str();
-    let key = key.as_str();
-    if key.is_empty() {
-        format!(in alloc; "configuration: [{group}] {matter}")
-    } else {
-        format!(in alloc; "configuration: [{group}] {key} {matter}")
-    }
-}
-
-// What is wrong with one slot, or with two.
-fn slots_cause(alloc: Global, before: &str, slot: &Text, after: &str) -> Result<String, AllocError>
-    ensures { IfOk result (λ t. string_bytes t ≡ before.now ++ (slot.now ++ after.now)) }
-{
-    let slot = slot.as_str();
-    format!(in alloc; "{before}{slot}{after}")
-}
-
-fn pair_cause(alloc: Global, first: &Text, second: &Text, after: &str) -> Result<String, AllocError>
-    ensures { IfOk result (λ t. string_bytes t ≡ codes "configuration: " ++ (first.now ++ (codes " and " ++ (second.now ++ after.now)))) }
-{
-    let first = first.as_str();
-    let second = second.as_str();
-    format!(in alloc; "configuration: {first} and {second}{after}")
-}
-
-// What is wrong with what a configuration says.
-fn refusal_cause(alloc: Global, refusal: &ConfRefusal) -> Result<String, AllocError>
-    ensures { IfOk result (λ t. string_bytes t ≡ refusal_cause refusal.now) }
-{
-    match refusal {
-        ConfRefusal::Missing { group, key } => place_cause(alloc, group, key, "missing"),
-        ConfRefusal::UnknownKey { group, key } => place_cause(alloc, group, key, "unknown"),
-        ConfRefusal::LeftOut { group, key } => place_cause(alloc, group, key, "left out"),
-        ConfRefusal::BadValue { group, key } => place_cause(alloc, group, key, "bad value"),
-        ConfRefusal::BadSlotName { group } => {
-            slots_cause(alloc, "configuration: bad slot name [", group, "]")
-        }
-        ConfRefusal::TooMany { slots } => {
-            format!(in alloc; "configuration: too many slots: {slots}")
-        }
-        ConfRefusal::SameDevice { first, second } => {
-            pair_cause(alloc, first, second, " share a device")
-        }
-        ConfRefusal::SameBootName { first, second } => {
-            pair_cause(alloc, first, second, " share a bootname")
-        }
-        ConfRefusal::NoParent { slot } => {
-            slots_cause(alloc, "configuration: ", slot, " has no such parent")
-        }
-        ConfRefusal::ParentCycle { slot } => {
-            slots_cause(alloc, "configuration: parents of ", slot, " do not end")
-        }
-        ConfRefusal::ChildBootName { slot } => {
-            slots_cause(alloc, "configuration: ", slot, " has parent and bootname")
-        }
-        ConfRefusal::DeviceIsFile { slot } => {
-            slots_cause(
-                alloc,
-                "configuration: device of ",
-                slot,
-                " is in use by rauc",
-            )
-        }
-    }
-}
-
-// What is wrong with a configuration.
-fn conf_cause(alloc: Global, refusal: &BadConf) -> Result<String, AllocError>
-    ensures { IfOk result (λ t. string_bytes t ≡ conf_cause refusal.now) }
+// Why a configuration is refused.
+fn bad_conf_cause(alloc: Global, refusal: &BadConf) -> Result<Text, NoMemory>
+    ensures { IfOk result (λ t. t ≡ bad_conf_cause refusal.now) }
 {
     match refusal {
         BadConf::Key(fault) => key_cause(alloc, fault),
-        BadConf::Conf(refusal) => refusal_cause(alloc, refusal),
+        BadConf::Conf(refusal) => conf_cause(alloc, refusal),
     }
 }
 
-// Why an image is not put on a device.
-fn put_cause(alloc: Global, image: &str, refusal: &PutRefusal) -> Result<String, AllocError>
-    ensures { IfOk result (λ t. string_bytes t ≡ put_cause image.now refusal.now) }
+fn missing_cause(alloc: Global, path: &str) -> Result<Text, NoMemory>
+    ensures { IfOk result (λ t. t ≡ codes "no configuration " ++ path.now) }
+{
+    let cause = format!(in alloc; "no configuration {path}")?;
+    Ok(Text::from_string(cause))
+}
+
+fn configuration_cause(alloc: Global, refusal: &BadConf) -> Result<Text, NoMemory>
+    ensures { IfOk result (λ t. t ≡ codes "configuration: " ++ bad_conf_cause refusal.now) }
+{
+    let cause = bad_conf_cause(alloc, refusal)?;
+    let cause = cause.as_str();
+    let whole = format!(in alloc; "configuration: {cause}")?;
+    Ok(Text::from_string(whole))
+}
+
+// Why there is no system, from the path of its configuration.
+fn system_cause(alloc: Global, path: &str, refusal: &NoSystem) -> Result<Text, NoMemory>
+    ensures { IfOk result (λ t. t ≡ system_cause path.now refusal.now) }
 {
     match refusal {
-        PutRefusal::NoImage { path } => {
-            let path = path.as_str();
-            format!(in alloc; "no image {path}")
-        }
-        PutRefusal::NoDevice { path } => {
-            let path = path.as_str();
-            format!(in alloc; "no device {path}")
-        }
-        PutRefusal::ImageSize { stated, found } => {
-            format!(in alloc; "image {image}: {found} bytes, manifest says {stated}")
-        }
-        PutRefusal::ImageTooLarge { size, device } => {
-            format!(in alloc; "image {image}: {size} bytes do not fit device of {device}")
-        }
+        NoSystem::Missing => missing_cause(alloc, path),
+        NoSystem::Bad(refusal) => configuration_cause(alloc, refusal),
     }
 }
 
-// Why the slot of this name is not written.
-fn slot_cause(
-    alloc: Global,
-    slot: &str,
-    image: &str,
-    refusal: &SlotRefusal,
-) -> Result<String, AllocError>
-    ensures { IfOk result (λ t. string_bytes t ≡ slot_cause slot.now image.now refusal.now) }
-{
-    match refusal {
-        SlotRefusal::NoSuchSlot { text } => {
-            let text = text.as_str();
-            format!(in alloc; "no such slot: {text}")
-        }
-        SlotRefusal::BootedUnknown => String::from_str(alloc, "booted slot is not known"),
-        SlotRefusal::Busy { .. } => format!(in alloc; "slot {slot} is in use"),
-        SlotRefusal::ReadOnly { .. } => format!(in alloc; "slot {slot} is readonly"),
-        SlotRefusal::ArchiveImage { image } => {
-            let image = image.as_str();
-            format!(in alloc; "image {image} is an archive")
-        }
-        SlotRefusal::WrongType { .. } => format!(in alloc; "slot {slot} cannot be written"),
-        SlotRefusal::MountsUnread => String::from_str(alloc, "mounts unreadable"),
-        SlotRefusal::Mounted { .. } => format!(in alloc; "slot {slot} is mounted"),
-        SlotRefusal::Image(refusal) => put_cause(alloc, image, refusal),
-    }
-}
-
-// The cause of an end of the command.
-fn cause(alloc: Global, command: &Command, outcome: &Outcome) -> Result<String, AllocError>
-    ensures { IfOk result (λ t. string_bytes t ≡ cause_of command.now outcome.now) }
-{
-    match outcome {
-        Outcome::Done | Outcome::Help => Ok(String::new(alloc)),
-        Outcome::Usage => String::from_str(alloc, "bad usage, see rauc --help"),
-        Outcome::NoConfig => {
-            let path = command.conf();
-            format!(in alloc; "no configuration {path}")
-        }
-        Outcome::BadConfig(refusal) => conf_cause(alloc, refusal),
-        Outcome::Slot(refusal) => {
-            slot_cause(alloc, slot_name(command), image_path(command), refusal)
-        }
-        Outcome::Outside(kind) => {
-            let word = fault_word(*kind);
-            format!(in alloc; "outside fault: {word}")
-        }
-        Outcome::NoMemory => String::from_str(alloc, "out of memory"),
-    }
-}
-
-/// A report of one line on standard error, and nothing else.
-pub fn failing(alloc: Global, outcome: Outcome, cause: &str) -> Result<Report, NoMemory>
-    ensures { IfOk result (λ r. r ≡ failing outcome cause.now) }
+// A report of one line on standard error, and nothing else.
+fn error_report(alloc: Global, outcome: Outcome, cause: &str) -> Result<Report, NoMemory>
+    ensures { IfOk result (λ r. r ≡ error_report outcome cause.now) }
 {
     let line = format!(in alloc; "rauc: {cause}\n")?;
     Ok(Report {
@@ -278,11 +123,49 @@ pub fn failing(alloc: Global, outcome: Outcome, cause: &str) -> Result<Report, N
     })
 }
 
-/// The report of a command that did not do its work.
-pub fn failed(alloc: Global, command: &Command, outcome: Outcome) -> Result<Report, NoMemory>
-    ensures report { IfOk result (λ r. r ≡ failed command.now outcome) }
-    ensures spoken { IsFailure outcome → IfOk result (Speaks (Some (Run command.now))) }
+/// The report of words that are no command.
+pub fn usage_report(alloc: Global) -> Result<Report, NoMemory>
+    ensures { IfOk result (λ r. r ≡ usage_report) }
 {
-    let cause = cause(alloc, command, &outcome)?;
-    failing(alloc, outcome, cause.as_str())
+    error_report(alloc, Outcome::Usage, "bad usage, see rauc --help")
+}
+
+/// The report of a machine call of this kind that failed.
+pub fn outside(alloc: Global, kind: Fault) -> Result<Report, NoMemory>
+    ensures { IfOk result (λ r. r ≡ outside kind) }
+{
+    let word = fault_word(kind);
+    let cause = format!(in alloc; "outside fault: {word}")?;
+    error_report(alloc, Outcome::Outside(kind), cause.as_str())
+}
+
+// The outcome where there is no system.
+fn system_outcome(refusal: NoSystem) -> Outcome
+    ensures { result ≡ system_outcome refusal }
+{
+    match refusal {
+        NoSystem::Missing => Outcome::NoConfig,
+        NoSystem::Bad(refusal) => Outcome::BadConfig(refusal),
+    }
+}
+
+/// The report where there is no system to work on, from the path of its configuration.
+pub fn no_system_report(alloc: Global, path: &str, refusal: NoSystem) -> Result<Report, NoMemory>
+    ensures { IfOk result (λ r. r ≡ no_system_report path.now refusal) }
+{
+    let cause = system_cause(alloc, path, &refusal)?;
+    error_report(alloc, system_outcome(refusal), cause.as_str())
+}
+
+/// The report of a slot that is not written, from the image's path as the words name it.
+pub fn slot_refusal_report(
+    alloc: Global,
+    system: &System,
+    image: &str,
+    refusal: SlotRefusal,
+) -> Result<Report, NoMemory>
+    ensures { IfOk result (λ r. r ≡ slot_refusal_report system.now.slots image.now refusal) }
+{
+    let cause = slot_cause(alloc, system, image, &refusal)?;
+    error_report(alloc, Outcome::Slot(refusal), cause.as_str())
 }

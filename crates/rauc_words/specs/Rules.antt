@@ -36,5 +36,5 @@ rauc_app = on_top (λ s. record s { rules = rauc_rules; no_binary_name = true; d
     (new_app (codes "rauc"))
 
 -- the flag is given
-abbrev pub flag_of : Text → List Row → Bool
-flag_of id rows = option_map_or (λ t. bytes_eq t (codes "true")) (first_of id rows) false
+abbrev pub is_flag_set : Text → List Row → Bool
+is_flag_set id rows = option_map_or (λ t. bytes_eq t (codes "true")) (first_of id rows) false

@@ -1,59 +1,102 @@
 -- The table of commands, over what words give.
-use Rattle.std.specs.Prelude.{ℕ, ◌==◌, ◌&&◌, ◌||◌, Bool, true, not, List, Option, Some, None, codes, length, if◌then◌else◌, is_some, option_and_then, option_map}
+use Rattle.std.specs.Prelude.{ℕ, ◌+◌, ◌==◌, ◌&&◌, ◌||◌, Bool, true, false, not, nat_le, List, [], ◌∷◌, Option, Some, None, codes, find, length, if◌then◌else◌, is_some, option_and_then, option_map}
 use Rattle.std.specs.List.{list_any}
 use Rattle.std.specs.Option.{option_map_or}
 use Rattle.std.specs.Str.{bytes_eq}
-use Rattle.rauc_words.specs.Reading.{parsed_of}
-use Rattle.rauc_words.specs.declared.parsed.Parsed.{Parsed}
+use Rattle.clap.specs.Words.{Text}
+use Rattle.rauc_words.specs.Reading.{command_line_of}
 use Rattle.rauc_words.specs.declared.asked.Asked.{Asked}
-use Rattle.rauc_words.specs.declared.asked.Asked.TheVariants.{Help, Run}
+use Rattle.rauc_words.specs.declared.asked.Asked.TheVariants as asked
 use Rattle.rauc_words.specs.declared.asked.Command.{Command}
-use Rattle.rauc_words.specs.declared.asked.Command.TheVariants.{WriteSlot}
+use Rattle.rauc_words.specs.declared.asked.Command.TheVariants as command
 use Rattle.rauc_words.specs.declared.asked.Place.{Place}
+use Rattle.rauc_words.specs.declared.asked.Run.{Run}
+use Rattle.rauc_words.specs.declared.command_line.CommandLine.{CommandLine}
+use Rattle.rauc_words.specs.declared.command_line.Extras.{Extras}
+use Rattle.rauc_words.specs.declared.command_line.Positionals.{Positionals}
+use Rattle.rauc_words.specs.declared.table.CommandKind.{CommandKind}
+use Rattle.rauc_words.specs.declared.table.CommandKind.TheVariants as kind
+use Rattle.rauc_words.specs.declared.table.CommandRow.{CommandRow}
+use Rattle.rauc_words.specs.declared.table.ExtraNames.{ExtraNames}
+
+-- none of the options that not every command allows
+abbrev pub no_extras : ExtraNames
+no_extras = record { output_format = false; socket = false; connections = false; ignore_compatible = false; detailed = false }
+
+-- the commands: each with its name, its positionals from the fewest to the most, and the options that it allows
+abbrev pub command_rows : List (Text × CommandRow)
+command_rows =
+    (codes "write-slot", record { kind = kind.WriteSlot; fewest = 2; most = 2; allowed = no_extras }) ∷ []
+
+-- the row of a command by its name
+abbrev pub command_row : Text → Option CommandRow
+command_row name = option_map (λ row. row.1) (find (λ row. bytes_eq name row.0) command_rows)
+
+-- `write-slot SLOT IMAGE`
+abbrev pub write_slot_command : Option Text → Option Text → Option Command
+write_slot_command first second = option_and_then (λ slot. option_map (λ image. command.WriteSlot slot image) second) first
+
+-- each command from its positionals
+abbrev pub build : CommandKind → Option Text → Option Text → Option Command
+build kind.WriteSlot first second = write_slot_command first second
+
+-- how many positionals follow the command's name
+abbrev pub positional_count : Positionals → ℕ
+positional_count p = (if is_some p.first then 1 else 0) + (if is_some p.second then 1 else 0)
+
+-- which options are given, of those that not every command allows
+abbrev pub extra_names : Extras → ExtraNames
+extra_names e = record {
+  output_format = is_some e.output_format;
+  socket = is_some e.socket;
+  connections = is_some e.connections;
+  ignore_compatible = e.ignore_compatible;
+  detailed = e.detailed;
+}
+
+-- each option that is given is allowed
+abbrev pub are_allowed : ExtraNames → ExtraNames → Bool
+are_allowed given allowed =
+    (not given.output_format || allowed.output_format) && (not given.socket || allowed.socket)
+    && (not given.connections || allowed.connections)
+    && (not given.ignore_compatible || allowed.ignore_compatible) && (not given.detailed || allowed.detailed)
+
+-- the command takes as many positionals, and these options
+abbrev pub takes : CommandRow → CommandLine → Bool
+takes row line = nat_le row.fewest (positional_count line.positionals) && nat_le (positional_count line.positionals) row.most
+    && are_allowed (extra_names line.extras) row.allowed
+
+-- the command of a row, where it takes what the line gives
+abbrev pub row_command : CommandLine → CommandRow → Option Run
+row_command line row = if takes row line
+    then option_map (λ made. record { place = line.place; command = made }) (build row.kind line.positionals.first line.positionals.second)
+    else None
+
+-- the command that the line names
+abbrev pub command_in : CommandLine → Option Run
+command_in line = option_and_then (row_command line) (option_and_then command_row line.positionals.command)
 
 -- there is no value, or one that is not empty and has no NUL
-abbrev pub is_value : Option (List ℕ) → Bool
-is_value None = true
-is_value (Some t) = not (length t == 0) && not (list_any (λ b. b == 0) t)
+abbrev pub is_usable : Option Text → Bool
+is_usable None = true
+is_usable (Some t) = not (length t == 0) && not (list_any (λ b. b == 0) t)
 
-abbrev pub has_values : Parsed → Bool
-has_values p = is_value p.command && is_value p.first && is_value p.second && is_value p.conf
-    && is_value p.boot_slot && is_value p.output_format && is_value p.socket && is_value p.connections
-
--- the words say how a report is written, or what a service does
-abbrev pub has_report : Parsed → Bool
-has_report p = is_some p.output_format || p.detailed
-
-abbrev pub has_service : Parsed → Bool
-has_service p = is_some p.socket || is_some p.connections
-
-abbrev pub place_of : Parsed → Place
-place_of p = record { conf = p.conf; given = p.boot_slot }
-
--- `write-slot SLOT IMAGE`, with none of the other commands' options
-abbrev pub write_slot_in : Parsed → Option Command
-write_slot_in p = if has_report p || has_service p || p.ignore_compatible then None
-    else option_and_then (λ slot. option_map (λ image. WriteSlot (place_of p) slot image) p.second) p.first
-
--- the commands by their names: all others are none
-abbrev pub named_with : Parsed → Option (List ℕ) → Option Command
-named_with p None = None
-named_with p (Some name) = if bytes_eq name (codes "write-slot") then write_slot_in p else None
-
-abbrev pub named_in : Parsed → Option Command
-named_in p = named_with p p.command
+-- each value that is given is usable
+abbrev pub are_usable : CommandLine → Bool
+are_usable line =
+    is_usable line.positionals.command && is_usable line.positionals.first && is_usable line.positionals.second
+    && is_usable line.place.conf && is_usable line.place.given
+    && is_usable line.extras.output_format && is_usable line.extras.socket && is_usable line.extras.connections
 
 -- help before all else, then no value may be empty or have a NUL, then the command
-abbrev pub asked_in : Parsed → Option Asked
-asked_in p = if p.help then Some Help else (if has_values p then option_map (λ command. Run command) (named_in p) else None)
+abbrev pub request_in : CommandLine → Option Asked
+request_in line = if line.help then Some asked.Help
+    else (if are_usable line then option_map (λ run. asked.Run run) (command_in line) else None)
 
 -- what words ask for: the reading by `clap`, and then the table
-abbrev pub command_of : List (List ℕ) → Option Asked
-command_of words = option_and_then asked_in (parsed_of words)
+abbrev pub command_of : List Text → Option Asked
+command_of words = option_and_then request_in (command_line_of words)
 
--- the path of a command's configuration: the one that its words name, or the usual one
-abbrev pub conf_in : Place → List ℕ
-conf_in place = option_map_or (λ path. path) place.conf (codes "/etc/rauc/system.conf")
-
-abbrev pub conf_path : Command → List ℕ
-conf_path (WriteSlot place slot image) = conf_in place
+-- the path of the configuration: the one that the words name, or the usual one
+abbrev pub conf_path : Place → Text
+conf_path place = option_map_or (λ path. path) place.conf (codes "/etc/rauc/system.conf")

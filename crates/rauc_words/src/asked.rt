@@ -15,30 +15,30 @@ pub struct Place {
     pub given: Option<Text>,
 }
 
-/// A command with its values, of which none is empty or has a NUL.
-#[derive(Debug, Drop)]
-pub enum Command {
-    /// Writes the image at a path into the slot of this name.
-    WriteSlot {
-        place: Place,
-        slot: Text,
-        image: Text,
-    },
-}
-
-impl Command {
+impl Place {
     /// The path of the configuration: the one that the words name, or `/etc/rauc/system.conf`.
-    pub fn conf(&self) -> &str
+    pub fn conf_path(&self) -> &str
         ensures { result.now ≡ conf_path self.now }
     {
-        let place = match self {
-            Command::WriteSlot { place, .. } => place,
-        };
-        match &place.conf {
+        match &self.conf {
             Some(conf) => conf.as_str(),
             None => CONF,
         }
     }
+}
+
+/// A command with its values, of which none is empty or has a NUL.
+#[derive(Debug, Drop)]
+pub enum Command {
+    /// Writes the image at a path into the slot of this name.
+    WriteSlot { slot: Text, image: Text },
+}
+
+/// A command, and where it finds the system that it works on.
+#[derive(Debug, Drop)]
+pub struct Run {
+    pub place: Place,
+    pub command: Command,
 }
 
 /// What some words ask for.
@@ -47,5 +47,5 @@ pub enum Asked {
     /// The help text.
     Help,
     /// A command.
-    Run(Command),
+    Run(Run),
 }

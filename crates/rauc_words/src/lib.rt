@@ -2,8 +2,8 @@
 #![tactic(auto)]
 
 mod asked;
-mod parsed;
+mod command_line;
 mod table;
 
-pub use asked::{Asked, Command, Place};
+pub use asked::{Asked, Command, Place, Run};
 pub use table::read_words;

@@ -1,14 +1,136 @@
 ghost use Rattle.std.specs.Prelude.{◌≡◌, IfOk};
-ghost use Rattle.rauc_words.specs.Table.{asked_in, command_of, has_report, has_service, has_values, is_value, named_in, write_slot_in};
+ghost use Rattle.rauc_words.specs.Table.{are_usable, build, command_in, command_of, command_row, extra_names, is_usable, are_allowed, positional_count, request_in, takes, write_slot_command};
 
-use crate::parsed::{Parsed, parse};
-use crate::{Asked, Command, Place};
+use crate::command_line::{CommandLine, Extras, Positionals, parse};
+use crate::{Asked, Command, Run};
 use std::alloc::Global;
 use updater_text::{NoMemory, Text};
 
+/// Which of the options that not every command allows.
+#[derive(Clone, Copy)]
+pub struct ExtraNames {
+    pub output_format: bool,
+    pub socket: bool,
+    pub connections: bool,
+    pub ignore_compatible: bool,
+    pub detailed: bool,
+}
+
+/// The commands that there are.
+#[derive(Clone, Copy)]
+pub enum CommandKind {
+    WriteSlot,
+}
+
+/// What a command takes: its positionals, from the fewest to the most, and the options that it
+/// allows beside those of every command, `-c`, `--conf` and `--override-boot-slot`.
+#[derive(Clone, Copy)]
+pub struct CommandRow {
+    pub kind: CommandKind,
+    pub fewest: usize,
+    pub most: usize,
+    pub allowed: ExtraNames,
+}
+
+const NO_EXTRAS: ExtraNames = ExtraNames {
+    output_format: false,
+    socket: false,
+    connections: false,
+    ignore_compatible: false,
+    detailed: false,
+};
+
+const WRITE_SLOT: CommandRow = CommandRow {
+    kind: CommandKind::WriteSlot,
+    fewest: 2,
+    most: 2,
+    allowed: NO_EXTRAS,
+};
+
+// The table of the commands, by their names.
+fn command_row(name: &str) -> Option<CommandRow>
+    ensures { result ≡ command_row name.now }
+{
+    match name {
+        "write-slot" => Some(WRITE_SLOT),
+        _ => None,
+    }
+}
+
+// `write-slot SLOT IMAGE`.
+fn write_slot_command(first: Option<Text>, second: Option<Text>) -> Option<Command>
+    ensures { result ≡ write_slot_command first second }
+{
+    let slot = first?;
+    let image = second?;
+    Some(Command::WriteSlot { slot, image })
+}
+
+// The command of this kind with its positionals.
+fn build(kind: CommandKind, first: Option<Text>, second: Option<Text>) -> Option<Command>
+    ensures { result ≡ build kind first second }
+{
+    match kind {
+        CommandKind::WriteSlot => write_slot_command(first, second),
+    }
+}
+
+fn positional_count(positionals: &Positionals) -> usize
+    ensures { result ≡ positional_count positionals.now }
+{
+    usize::from(positionals.first.is_some()) + usize::from(positionals.second.is_some())
+}
+
+fn extra_names(extras: &Extras) -> ExtraNames
+    ensures { result ≡ extra_names extras.now }
+{
+    ExtraNames {
+        output_format: extras.output_format.is_some(),
+        socket: extras.socket.is_some(),
+        connections: extras.connections.is_some(),
+        ignore_compatible: extras.ignore_compatible,
+        detailed: extras.detailed,
+    }
+}
+
+// Each option that is given is allowed.
+fn are_allowed(given: ExtraNames, allowed: ExtraNames) -> bool
+    ensures { result ≡ are_allowed given allowed }
+{
+    (!given.output_format || allowed.output_format)
+        && (!given.socket || allowed.socket)
+        && (!given.connections || allowed.connections)
+        && (!given.ignore_compatible || allowed.ignore_compatible)
+        && (!given.detailed || allowed.detailed)
+}
+
+// The command takes as many positionals, and each option that is given is allowed.
+fn takes(row: CommandRow, line: &CommandLine) -> bool
+    ensures { result ≡ takes row line.now }
+{
+    let count = positional_count(&line.positionals);
+    row.fewest <= count && count <= row.most && are_allowed(extra_names(&line.extras), row.allowed)
+}
+
+fn command_in(line: CommandLine) -> Option<Run>
+    ensures { result ≡ command_in line }
+{
+    let row = command_row(line.positionals.command.as_ref()?.as_str())?;
+    if !takes(row, &line) {
+        return None;
+    }
+    let CommandLine {
+        positionals,
+        place,
+        ..
+    } = line;
+    let command = build(row.kind, positionals.first, positionals.second)?;
+    Some(Run { place, command })
+}
+
 // There is no value, or one that is not empty and has no NUL.
-fn is_value(text: &Option<Text>) -> bool
-    ensures { result ≡ is_value text.now }
+fn is_usable(text: &Option<Text>) -> bool
+    ensures { result ≡ is_usable text.now }
 {
     match text {
         None => true,
@@ -19,78 +141,30 @@ fn is_value(text: &Option<Text>) -> bool
     }
 }
 
-fn has_values(parsed: &Parsed) -> bool
-    ensures { result ≡ has_values parsed.now }
+// Each value that is given is usable.
+fn are_usable(line: &CommandLine) -> bool
+    ensures { result ≡ are_usable line.now }
 {
-    is_value(&parsed.command)
-        && is_value(&parsed.first)
-        && is_value(&parsed.second)
-        && is_value(&parsed.conf)
-        && is_value(&parsed.boot_slot)
-        && is_value(&parsed.output_format)
-        && is_value(&parsed.socket)
-        && is_value(&parsed.connections)
+    is_usable(&line.positionals.command)
+        && is_usable(&line.positionals.first)
+        && is_usable(&line.positionals.second)
+        && is_usable(&line.place.conf)
+        && is_usable(&line.place.given)
+        && is_usable(&line.extras.output_format)
+        && is_usable(&line.extras.socket)
+        && is_usable(&line.extras.connections)
 }
 
-// The words say how a report is written.
-fn has_report(parsed: &Parsed) -> bool
-    ensures { result ≡ has_report parsed.now }
+fn request_in(line: CommandLine) -> Option<Asked>
+    ensures { result ≡ request_in line }
 {
-    parsed.output_format.is_some() || parsed.detailed
-}
-
-// The words say what a service does.
-fn has_service(parsed: &Parsed) -> bool
-    ensures { result ≡ has_service parsed.now }
-{
-    parsed.socket.is_some() || parsed.connections.is_some()
-}
-
-// `write-slot SLOT IMAGE`, with no further options.
-fn read_write_slot(parsed: Parsed) -> Option<Command>
-    ensures { result ≡ write_slot_in parsed }
-{
-    if has_report(&parsed) || has_service(&parsed) || parsed.ignore_compatible {
-        return None;
-    }
-    let Parsed {
-        first,
-        second,
-        conf,
-        boot_slot,
-        ..
-    } = parsed;
-    let slot = first?;
-    let image = second?;
-    let place = Place {
-        conf,
-        given: boot_slot,
-    };
-    Some(Command::WriteSlot { place, slot, image })
-}
-
-// The commands by their names: each that exists has its line here.
-fn named(parsed: Parsed) -> Option<Command>
-    ensures { result ≡ named_in parsed }
-{
-    let name = parsed.command.as_ref()?.as_str();
-    if name == "write-slot" {
-        read_write_slot(parsed)
-    } else {
-        None
-    }
-}
-
-fn asked(parsed: Parsed) -> Option<Asked>
-    ensures { result ≡ asked_in parsed }
-{
-    if parsed.help {
+    if line.help {
         return Some(Asked::Help);
     }
-    if !has_values(&parsed) {
+    if !are_usable(&line) {
         return None;
     }
-    Some(Asked::Run(named(parsed)?))
+    Some(Asked::Run(command_in(line)?))
 }
 
 /// What the words ask for: help, wherever they are read and `--help` or `-h` is among them, else the
@@ -99,7 +173,7 @@ pub fn read_words(alloc: Global, words: &[Text]) -> Result<Option<Asked>, NoMemo
     ensures { IfOk result (λ asked. asked ≡ command_of words.now) }
 {
     match parse(alloc, words)? {
-        Some(parsed) => Ok(asked(parsed)),
+        Some(line) => Ok(request_in(line)),
         None => Ok(None),
     }
 }

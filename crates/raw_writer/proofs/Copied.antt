@@ -3,24 +3,25 @@ use Rattle.std.proofs.Common.{◌≡◌, ◌⊎◌, ⊎_elim, ℕ, Bool, true, f
 use Rattle.std.specs.Prelude.{◌==◌, min, is_some, not, bytes_eq, filter, map, if◌then◌else◌}
 use Rattle.std.specs.Option.{option_map}
 use Rattle.std.specs.List.{range_with_len}
+use Rattle.std.proofs.Math.Nat.{le-div_iff_mul-le}
 use Rattle.std.proofs.Math.Seq.{take-add, drop-append-add}
 use Rattle.std.proofs.lemmas.Bool.Decides.{nat_tests}
-use Rattle.std.proofs.lemmas.List.{append-nil, drop-drop, length-take-le, take-append-drop, take_at}
+use Rattle.std.proofs.lemmas.List.{append-nil, drop-drop, length-take-le, take-append-drop, take-append-le, take_at}
 use Rattle.std.proofs.lemmas.List.Elements.{filter-append}
-use Rattle.std.proofs.lemmas.List.FromFn.{map-range_with_len_more}
+use Rattle.std.proofs.lemmas.List.FromFn.{length-map-range_with_len, map-range_with_len_more, take-map-range_with_len}
 use Rattle.std.proofs.lemmas.Nat.{div-mul-add, mod-mul-add}
 use Rattle.sha2.specs.Sha256.{sha256}
 use Rattle.updater_text.specs.declared.digest.Digest.{Digest}
 use Rattle.machine.specs.declared.world.Span.{Span}
 use Rattle.machine.specs.declared.world.World.{World}
-use Rattle.machine.specs.World.{disk, patched, readable, written, synced, fetching, Holds}
-use Rattle.machine.specs.Frames.{OnlyIn}
+use Rattle.machine.specs.World.{disk, patch_at, readable, with_write, with_sync, with_fetched, HoldsUpTo}
+use Rattle.machine.specs.Frames.{DiffersOnlyIn}
 use Rattle.machine.proofs.Worlds.{by_path, bytes_eq_same}
 use Rattle.machine.proofs.Reading.{fetching-none}
 use Rattle.machine.proofs.Only.{bytes_of, disk-written, readable_only}
 use Rattle.raw_writer.specs.declared.whole.WholeStop.{WholeStop}
 use Rattle.raw_writer.specs.declared.whole.WholeStop.TheVariants.{Outside, Short, NoMemory}
-use Rattle.raw_writer.specs.Whole.{fronted, span, pieces, IsWritten, IsCopied, PieceEnds, WholeEnds}
+use Rattle.raw_writer.specs.Whole.{with_image_front, span, pieces, whole_length, IsWritten, IsShort, IsCopied, IsCut, PieceEnds, WholeEnds}
 
 -- The spans of a whole write, one piece after another.
 module _ (device : List ℕ) (piece : ℕ) where
@@ -52,6 +53,15 @@ module _ (device : List ℕ) (piece : ℕ) where
     where
       not_zero : (n : ℕ) → 0 < n → (n == 0) ≡ false
       not_zero n lt = grind (arith, nat_tests)
+
+  -- the first pieces
+  pub pieces_first : (k size : ℕ) → 0 < piece → k * piece ≤ size → take k (pieces device piece size) ≡ pieces device piece (k * piece)
+  pieces_first k size some le =
+      let within : k ≤ size / piece = (le-div_iff_mul-le some).1 le in
+      let count : k ≤ length (map whole (range_with_len 0 (size / piece))) = subst (λ (n : ℕ). k ≤ n) (sym (length-map-range_with_len whole 0 (size / piece))) within in
+      take-append-le k (map whole (range_with_len 0 (size / piece))) (if size % piece == 0 then [] else span device (size / piece * piece) (size % piece) ∷ []) count
+      ∙ take-map-range_with_len whole 0 (size / piece) k within
+      ∙ sym (pieces_whole k some)
 
   pub pieces_more : (k want : ℕ) → 0 < want → want ≤ piece → pieces device piece (k * piece + want) ≡ pieces device piece (k * piece) ++ span device (k * piece) want ∷ []
   pieces_more k want some le =
@@ -90,33 +100,38 @@ pieces_synced device piece size =
     rest true = refl
     rest false = rw (bytes_eq_same device) refl
 
--- the front, one piece longer
-fronted_more : (image old : List ℕ) (done n : ℕ) (piece : List ℕ) → done + length piece ≤ length old → done ≤ length image → piece ≡ take n (drop done image) → length piece ≡ n → patched (fronted done image old) done piece ≡ fronted (done + n) image old
-fronted_more image old done n piece fits long is count =
+-- bytes behind the front
+pub front_then : (image old : List ℕ) (done : ℕ) (bytes : List ℕ) → done ≤ length image → patch_at (with_image_front done image old) done bytes ≡ take done image ++ bytes ++ drop (done + length bytes) old
+front_then image old done bytes long =
     let front : length (take done image) ≡ done = length-take-le done image long in
     let left : take done (take done image ++ drop done old) ≡ take done image = take_at (take done image) (drop done old) done front in
-    let back : drop (done + length piece) (take done image ++ drop done old) ≡ drop (length piece) (drop done old) = subst (λ (k : ℕ). drop (k + length piece) (take done image ++ drop done old) ≡ drop (length piece) (drop done old)) front (drop-append-add (take done image) (drop done old) (length piece)) in
-    let behind : drop (length piece) (drop done old) ≡ drop (done + n) old = drop-drop (length piece) done old ∙ ap (λ (k : ℕ). drop (done + k) old) count in
+    let back : drop (done + length bytes) (take done image ++ drop done old) ≡ drop (length bytes) (drop done old) = subst (λ (k : ℕ). drop (k + length bytes) (take done image ++ drop done old) ≡ drop (length bytes) (drop done old)) front (drop-append-add (take done image) (drop done old) (length bytes)) in
+    ap (λ (xs : List ℕ). xs ++ bytes ++ drop (done + length bytes) (take done image ++ drop done old)) left
+    ∙ ap (λ (xs : List ℕ). take done image ++ bytes ++ xs) (back ∙ drop-drop (length bytes) done old)
+
+-- the front, one piece longer
+front_more : (image old : List ℕ) (done n : ℕ) (piece : List ℕ) → done ≤ length image → piece ≡ take n (drop done image) → length piece ≡ n → patch_at (with_image_front done image old) done piece ≡ with_image_front (done + n) image old
+front_more image old done n piece long is count =
     let longer : take done image ++ piece ≡ take (done + n) image = ap (λ (xs : List ℕ). take done image ++ xs) is ∙ sym (take-add done n image) in
-    ap (λ (xs : List ℕ). xs ++ piece ++ drop (done + length piece) (take done image ++ drop done old)) left
-    ∙ ap (λ (xs : List ℕ). xs ++ drop (done + length piece) (take done image ++ drop done old)) longer
-    ∙ ap (λ (xs : List ℕ). take (done + n) image ++ xs) (back ∙ behind)
+    front_then image old done piece long
+    ∙ ap (λ (xs : List ℕ). xs ++ drop (done + length piece) old) longer
+    ∙ ap (λ (k : ℕ). take (done + n) image ++ drop (done + k) old) count
 
 -- Of the image's first bytes so many stand on the device, and this is all that was done.
 pub record CopiedSoFar (image device : List ℕ) (piece done : ℕ) (old w : World) : Type 0 where
   pub enough : done ≤ length (readable old image)
-  pub front : disk w device ≡ option_map (fronted done (readable old image)) (disk old device)
+  pub front : disk w device ≡ option_map (with_image_front done (readable old image)) (disk old device)
   pub pending : w.pending ≡ old.pending ++ pieces device piece done
   pub writes : w.writes ≡ old.writes ++ pieces device piece done
-  pub fetched : w.fetched ≡ (fetching old image done).fetched
+  pub fetched : w.fetched ≡ (with_fetched old image done).fetched
 
-pub copied_none : (w : World) (image device : List ℕ) (piece end : ℕ) → 0 < piece → Holds w device end → CopiedSoFar image device piece 0 w w
+pub copied_none : (w : World) (image device : List ℕ) (piece end : ℕ) → 0 < piece → HoldsUpTo w device end → CopiedSoFar image device piece 0 w w
 copied_none w image device piece end some holds =
     let old = bytes_of (disk w device) holds.0 holds.1 in
     let none = pieces-none device piece some in
     record {
       enough = omega arith;
-      front = old.1 ∙ sym (ap (λ (o : Option (List ℕ)). option_map (fronted 0 (readable w image)) o) old.1);
+      front = old.1 ∙ sym (ap (λ (o : Option (List ℕ)). option_map (with_image_front 0 (readable w image)) o) old.1);
       pending = sym (ap (λ (s : List Span). w.pending ++ s) none ∙ append-nil w.pending);
       writes = sym (ap (λ (s : List Span). w.writes ++ s) none ∙ append-nil w.writes);
       fetched = ap (λ (x : World). x.fetched) (sym (fetching-none w image));
@@ -127,7 +142,7 @@ unfolding readable
 readable_disk w path bytes h = rw h refl
 
 -- the image is as it was, even where it is the device itself
-pub same_image : (u w : World) (image device : List ℕ) (piece size done : ℕ) → Holds u device size → OnlyIn device 0 size u w → CopiedSoFar image device piece done u w → readable w image ≡ readable u image
+pub same_image : (u w : World) (image device : List ℕ) (piece size done : ℕ) → HoldsUpTo u device size → DiffersOnlyIn device 0 size u w → CopiedSoFar image device piece done u w → readable w image ≡ readable u image
 same_image u w image device piece size done holds only so_far =
     ⊎_elim
     (λ is.
@@ -135,8 +150,8 @@ same_image u w image device piece size done holds only so_far =
     let before : readable u image ≡ old.0 = subst (λ (p : List ℕ). readable u p ≡ old.0) (sym is) (readable_disk u device old.0 old.1) in
     let there : disk w device ≡ Some old.0 =
     so_far.front
-    ∙ ap (λ (o : Option (List ℕ)). option_map (fronted done (readable u image)) o) old.1
-    ∙ ap (λ (xs : List ℕ). Some (fronted done xs old.0)) before
+    ∙ ap (λ (o : Option (List ℕ)). option_map (with_image_front done (readable u image)) o) old.1
+    ∙ ap (λ (xs : List ℕ). Some (with_image_front done xs old.0)) before
     ∙ ap (λ (xs : List ℕ). Some xs) (take-append-drop done old.0) in
     let after : readable w image ≡ old.0 = subst (λ (p : List ℕ). readable w p ≡ old.0) (sym is) (readable_disk w device old.0 there) in
     after ∙ sym before)
@@ -150,8 +165,8 @@ same_kind None (Some y) e = cc
 same_kind (Some x) None e = cc
 same_kind (Some x) (Some y) e = refl
 
-fetched_more : (u w : World) (image : List ℕ) (n m : ℕ) → is_some (disk w image) ≡ is_some (disk u image) → w.fetched ≡ (fetching u image n).fetched → (fetching w image m).fetched ≡ (fetching u image (n + m)).fetched
-unfolding fetching
+fetched_more : (u w : World) (image : List ℕ) (n m : ℕ) → is_some (disk w image) ≡ is_some (disk u image) → w.fetched ≡ (with_fetched u image n).fetched → (with_fetched w image m).fetched ≡ (with_fetched u image (n + m)).fetched
+unfolding with_fetched
 fetched_more u w image n m same is =
     ap (λ (b : Bool). cond b w.fetched (w.fetched + m)) same
     ∙ ap (λ (f : ℕ). cond (is_some (disk u image)) f (f + m)) is
@@ -162,15 +177,19 @@ fetched_more u w image n m same is =
     twice false f = omega arith
 
 -- what a piece adds
-written_adds : (w : World) (image device : List ℕ) (at n : ℕ) (bytes : List ℕ) → let v = written (fetching w image n) device at bytes in (v.pending ≡ w.pending ++ span device at (length bytes) ∷ []) × (v.writes ≡ w.writes ++ span device at (length bytes) ∷ []) × (v.fetched ≡ (fetching w image n).fetched)
-unfolding written fetching
+written_adds : (w : World) (image device : List ℕ) (at n : ℕ) (bytes : List ℕ) → let v = with_write (with_fetched w image n) device at bytes in (v.pending ≡ w.pending ++ span device at (length bytes) ∷ []) × (v.writes ≡ w.writes ++ span device at (length bytes) ∷ []) × (v.fetched ≡ (with_fetched w image n).fetched)
+unfolding with_write with_fetched
 written_adds w image device at n bytes = (refl, refl, refl)
 
-disk_fetching : (w : World) (image path : List ℕ) (n : ℕ) → disk (fetching w image n) path ≡ disk w path
-unfolding fetching
+read_leaves : (w : World) (image device : List ℕ) (n : ℕ) → let v = with_fetched w image n in (disk v device ≡ disk w device) × (v.pending ≡ w.pending) × (v.writes ≡ w.writes)
+unfolding with_fetched
+read_leaves w image device n = (refl, refl, refl)
+
+disk_fetching : (w : World) (image path : List ℕ) (n : ℕ) → disk (with_fetched w image n) path ≡ disk w path
+unfolding with_fetched
 disk_fetching w image path n = refl
 
-module _ (u w v : World) (image device : List ℕ) (piece size k n : ℕ) (bytes : List ℕ) (holds : Holds u device size) (some : 0 < n) (small : n ≤ piece) (count : length bytes ≡ n) (le : k * piece + n ≤ size) (only : OnlyIn device 0 size u w) (so_far : CopiedSoFar image device piece (k * piece) u w) (copied : IsCopied image device (k * piece) bytes w v) where
+module _ (u w v : World) (image device : List ℕ) (piece size k n : ℕ) (bytes : List ℕ) (holds : HoldsUpTo u device size) (some : 0 < n) (small : n ≤ piece) (count : length bytes ≡ n) (le : k * piece + n ≤ size) (only : DiffersOnlyIn device 0 size u w) (so_far : CopiedSoFar image device piece (k * piece) u w) (copied : IsCopied image device (k * piece) bytes w v) where
   same : readable w image ≡ readable u image
   same = same_image u w image device piece size (k * piece) holds only so_far
 
@@ -182,17 +201,17 @@ module _ (u w v : World) (image device : List ℕ) (piece size k n : ℕ) (bytes
   message_more = ap (λ (xs : List ℕ). take (k * piece) (readable u image) ++ xs) taken ∙ sym (take-add (k * piece) n (readable u image))
 
   abbrev next : World
-  next = written (fetching w image (length bytes)) device (k * piece) bytes
+  next = with_write (with_fetched w image (length bytes)) device (k * piece) bytes
 
-  front : disk v device ≡ option_map (fronted (k * piece + n) (readable u image)) (disk u device)
+  front : disk v device ≡ option_map (with_image_front (k * piece + n) (readable u image)) (disk u device)
   front =
       let old = bytes_of (disk u device) holds.0 holds.1 in
       let R = readable u image in
-      let here : disk w device ≡ Some (fronted (k * piece) R old.0) = so_far.front ∙ ap (λ (o : Option (List ℕ)). option_map (fronted (k * piece) R) o) old.1 in
+      let here : disk w device ≡ Some (with_image_front (k * piece) R old.0) = so_far.front ∙ ap (λ (o : Option (List ℕ)). option_map (with_image_front (k * piece) R) o) old.1 in
       ap (λ (x : World). disk x device) copied.left
-      ∙ disk-written (fetching w image (length bytes)) device (k * piece) bytes (fronted (k * piece) R old.0) (disk_fetching w image device (length bytes) ∙ here)
-      ∙ ap (λ (x : List ℕ). Some x) (fronted_more R old.0 (k * piece) n bytes (omega (arith, holds.2, old.2, count, le)) so_far.enough taken count)
-      ∙ sym (ap (λ (o : Option (List ℕ)). option_map (fronted (k * piece + n) R) o) old.1)
+      ∙ disk-written (with_fetched w image (length bytes)) device (k * piece) bytes (with_image_front (k * piece) R old.0) (disk_fetching w image device (length bytes) ∙ here)
+      ∙ ap (λ (x : List ℕ). Some x) (front_more R old.0 (k * piece) n bytes so_far.enough taken count)
+      ∙ sym (ap (λ (o : Option (List ℕ)). option_map (with_image_front (k * piece + n) R) o) old.1)
 
   added : (before after start : List Span) → before ≡ start ++ pieces device piece (k * piece) → after ≡ before ++ span device (k * piece) (length bytes) ∷ [] → after ≡ start ++ pieces device piece (k * piece + n)
   added before after start b a =
@@ -212,11 +231,11 @@ module _ (u w v : World) (image device : List ℕ) (piece size k n : ℕ) (bytes
         writes = added w.writes v.writes u.writes so_far.writes (ap (λ (x : World). x.writes) copied.left ∙ adds.1);
         fetched = ap (λ (x : World). x.fetched) copied.left ∙ adds.2
             ∙ fetched_more u w image (k * piece) (length bytes) (same_kind (disk w image) (disk u image) (only.lengths image)) so_far.fetched
-            ∙ ap (λ (c : ℕ). (fetching u image (k * piece + c)).fetched) count;
+            ∙ ap (λ (c : ℕ). (with_fetched u image (k * piece + c)).fetched) count;
       }
 
 -- the same at a place that is a multiple of a piece
-module _ (u w v : World) (image device : List ℕ) (piece size k done n : ℕ) (bytes : List ℕ) (at : done ≡ k * piece) (holds : Holds u device size) (some : 0 < n) (small : n ≤ piece) (count : length bytes ≡ n) (le : done + n ≤ size) (only : OnlyIn device 0 size u w) (so_far : CopiedSoFar image device piece done u w) (copied : IsCopied image device done bytes w v) where
+module _ (u w v : World) (image device : List ℕ) (piece size k done n : ℕ) (bytes : List ℕ) (at : done ≡ k * piece) (holds : HoldsUpTo u device size) (some : 0 < n) (small : n ≤ piece) (count : length bytes ≡ n) (le : done + n ≤ size) (only : DiffersOnlyIn device 0 size u w) (so_far : CopiedSoFar image device piece done u w) (copied : IsCopied image device done bytes w v) where
   le_at : k * piece + n ≤ size
   le_at = omega (arith, at, le)
 
@@ -245,21 +264,45 @@ next_even size done piece n is at lt =
     next : (k n : ℕ) → k * n + n ≡ (k + 1) * n
     next k n = omega arith
 
+-- so far only whole pieces
+whole_is : (piece k done n found : ℕ) → done ≡ k * piece → done ≤ found → found < done + n → n ≤ piece → whole_length piece found ≡ done
+whole_is piece k done n found at starts fewer small =
+    let split : found ≡ k * piece + (found - done) = omega (arith, at, starts) in
+    ap (λ (m : ℕ). m / piece * piece) split
+    ∙ ap (λ (m : ℕ). m * piece) (div-mul-add k piece (found - done) (omega (arith, starts, fewer, small)))
+    ∙ sym at
+
 -- the image ends within a piece
-pub short_more : (u w v : World) (image device : List ℕ) (piece size done n : ℕ) (bytes : List ℕ) (stop : WholeStop) → Holds u device size → length bytes ≡ n → done + n ≤ size → OnlyIn device 0 size u w → CopiedSoFar image device piece done u w → PieceEnds {T = Unit {0}} image device done bytes w v (Err stop) → WholeEnds image device piece size u v (Err stop)
-short_more u w v image device piece size done n bytes (Short found) holds count le only so_far ends =
+cut_more : (u w v : World) (image device : List ℕ) (piece size k done n found : ℕ) (bytes : List ℕ) → HoldsUpTo u device size → done ≡ k * piece → n ≤ piece → length bytes ≡ n → done + n ≤ size → DiffersOnlyIn device 0 size u w → DiffersOnlyIn device 0 size u v → CopiedSoFar image device piece done u w → IsCut image done bytes found w v → IsShort image device piece size found u v
+cut_more u w v image device piece size k done n found bytes holds at small count le only since so_far cut =
     let same = same_image u w image device piece size done holds only so_far in
-    let there = subst (λ (xs : List ℕ). done ≤ length xs → found ≡ length xs) same ends.1 in
-    (omega (arith, ends.0, count), there so_far.enough)
-short_more u w v image device piece size done n bytes (Outside fault) holds count le only so_far ends = tt
-short_more u w v image device piece size done n bytes NoMemory holds count le only so_far ends = tt
+    let there = subst (λ (xs : List ℕ). done ≤ length xs → found ≡ length xs) same cut.ends in
+    let whole = sym (whole_is piece k done n found at cut.starts (omega (arith, cut.fewer, count)) small) in
+    let left = read_leaves w image device (found - done) in
+    let sum : done + (found - done) ≡ found = omega (arith, cut.starts) in
+    record {
+      fewer = omega (arith, cut.fewer, count, le);
+      ends = there so_far.enough;
+      front = subst (λ (d : ℕ). disk v device ≡ option_map (with_image_front d (readable u image)) (disk u device)) whole (ap (λ (x : World). disk x device) cut.left ∙ left.0 ∙ so_far.front);
+      only = since;
+      pending = subst (λ (d : ℕ). v.pending ≡ u.pending ++ pieces device piece d) whole (ap (λ (x : World). x.pending) cut.left ∙ left.1 ∙ so_far.pending);
+      writes = subst (λ (d : ℕ). v.writes ≡ u.writes ++ pieces device piece d) whole (ap (λ (x : World). x.writes) cut.left ∙ left.2 ∙ so_far.writes);
+      fetched = ap (λ (x : World). x.fetched) cut.left
+          ∙ fetched_more u w image done (found - done) (same_kind (disk w image) (disk u image) (only.lengths image)) so_far.fetched
+          ∙ ap (λ (c : ℕ). (with_fetched u image c).fetched) sum;
+    }
+
+pub short_more : (u w v : World) (image device : List ℕ) (piece size k done n : ℕ) (bytes : List ℕ) (stop : WholeStop) → HoldsUpTo u device size → done ≡ k * piece → n ≤ piece → length bytes ≡ n → done + n ≤ size → DiffersOnlyIn device 0 size u w → DiffersOnlyIn device 0 size u v → CopiedSoFar image device piece done u w → PieceEnds {T = Unit {0}} image device done bytes w v (Err stop) → WholeEnds image device piece size u v (Err stop)
+short_more u w v image device piece size k done n bytes (Short found) holds at small count le only since so_far ends = cut_more u w v image device piece size k done n found bytes holds at small count le only since so_far ends
+short_more u w v image device piece size k done n bytes (Outside fault) holds at small count le only since so_far ends = tt
+short_more u w v image device piece size k done n bytes NoMemory holds at small count le only since so_far ends = tt
 
 -- all is there, and synced
-synced_leaves : (w : World) (device : List ℕ) → let v = synced w device in (disk v device ≡ disk w device) × (v.pending ≡ filter (λ s. not (bytes_eq s.path device)) w.pending) × (v.writes ≡ w.writes) × (v.fetched ≡ w.fetched)
-unfolding synced
+pub synced_leaves : (w : World) (device : List ℕ) → let v = with_sync w device in (disk v device ≡ disk w device) × (v.pending ≡ filter (λ s. not (bytes_eq s.path device)) w.pending) × (v.writes ≡ w.writes) × (v.fetched ≡ w.fetched)
+unfolding with_sync
 synced_leaves w device = (refl, refl, refl, refl)
 
-pub whole_written : (u w v : World) (image device : List ℕ) (piece size done : ℕ) (digest : Digest) → done ≡ size → CopiedSoFar image device piece done u w → OnlyIn device 0 size u v → v ≡ synced w device → digest.0 ≡ sha256 (take done (readable u image)) → IsWritten image device piece size digest u v
+pub whole_written : (u w v : World) (image device : List ℕ) (piece size done : ℕ) (digest : Digest) → done ≡ size → CopiedSoFar image device piece done u w → DiffersOnlyIn device 0 size u v → v ≡ with_sync w device → digest.0 ≡ sha256 (take done (readable u image)) → IsWritten image device piece size digest u v
 whole_written u w v image device piece size done digest all so_far only did hashed =
     let leaves = synced_leaves w device in
     let was = synced_leaves u device in

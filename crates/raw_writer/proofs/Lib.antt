@@ -1,4 +1,5 @@
 pub mod Checks
 pub mod Pieces
 pub mod Copied
+pub mod Order
 pub mod Stopping

@@ -1,37 +1,33 @@
--- Whether an image may be put on a device.
-use Rattle.std.specs.Prelude.{ℕ, false, List, Option, Some, None, Result, Ok, Err, ◌==◌, nat_le, if◌then◌else◌}
+-- Whether an image may be put on a device, and how a refusal reads.
+use Rattle.std.specs.Prelude.{◌≡◌, ◌==◌, ◌&&◌, ◌++◌, ℕ, false, not, List, [], Option, Some, Result, Ok, Err, codes, decimal, is_some, nat_lt, unwrap_or, if◌then◌else◌}
+use Rattle.std.specs.Option.{is_none}
+use Rattle.machine.specs.declared.stops.Stop.{Stop}
 use Rattle.machine.specs.declared.world.World.{World}
-use Rattle.machine.specs.World.{size_of, disk_length}
+use Rattle.machine.specs.World.{length_under, disk_length}
+use Rattle.machine.specs.Stops.{Settles}
 use Rattle.raw_writer.specs.declared.check.PutRefusal.{PutRefusal}
 use Rattle.raw_writer.specs.declared.check.PutRefusal.TheVariants.{NoImage, ImageSize, NoDevice, ImageTooLarge}
 
--- a length is an answer, never a refusal
-abbrev pub found : Option ℕ → Result (Option ℕ) PutRefusal
-found size = Ok size
-
--- a size on a device of this length, or on none
-abbrev pub fits : List ℕ → ℕ → Option ℕ → Result ℕ PutRefusal
-fits device size None = Err (NoDevice device)
-fits device size (Some room) = if nat_le size room then Ok size else Err (ImageTooLarge size room)
-
--- a size on the device
-abbrev pub room_for : World → List ℕ → ℕ → Result ℕ PutRefusal
-room_for w device size = fits device size (disk_length w device)
-
--- a size on the device, where one is named
-abbrev pub device_for : World → Option (List ℕ) → ℕ → Result ℕ PutRefusal
-device_for w None size = Ok size
-device_for w (Some device) size = room_for w device size
-
--- the image's length is the stated one, where one is stated
-abbrev pub stated_for : World → Option ℕ → Option (List ℕ) → ℕ → Result ℕ PutRefusal
-stated_for w None device size = device_for w device size
-stated_for w (Some stated) device size = if stated == size then device_for w device size else Err (ImageSize stated size)
-
-abbrev pub image_for : World → List ℕ → Option ℕ → Option (List ℕ) → Option ℕ → Result ℕ PutRefusal
-image_for w image stated device None = Err (NoImage image)
-image_for w image stated device (Some size) = stated_for w stated device size
-
--- the image's length, or the first refusal: no image, another length than stated, no device, too large for it
+-- the image's length, or the first refusal: no image, another length than stated, no device, too large
+-- for it; where no length is stated it is the image's own, and where no device is named none is missing
 abbrev pub check_of : World → List ℕ → Option ℕ → Option (List ℕ) → Result ℕ PutRefusal
-check_of w image stated device = image_for w image stated device (size_of w image false)
+check_of w image stated device =
+    let size = unwrap_or (length_under w image false) 0 in
+    let path = unwrap_or device [] in
+    let room = unwrap_or (disk_length w path) 0 in
+    if is_none (length_under w image false) then Err (NoImage image)
+    else if not (unwrap_or stated size == size) then Err (ImageSize (unwrap_or stated size) size)
+    else if is_some device && is_none (disk_length w path) then Err (NoDevice path)
+    else if is_some device && nat_lt room size then Err (ImageTooLarge size room)
+    else Ok size
+
+-- the answer is that of the check, for any image of this length
+pub record SettlesLength (w : World) (size : ℕ) (stated : Option ℕ) (device : Option (List ℕ)) (result : Result ℕ (Stop PutRefusal)) : Type 0 where
+  pub each : (image : List ℕ) → length_under w image false ≡ Some size → Settles result (check_of w image stated device)
+
+-- a refusal in words
+abbrev pub put_cause : (image : List ℕ) → PutRefusal → List ℕ
+put_cause image (NoImage path) = codes "no image " ++ path
+put_cause image (NoDevice path) = codes "no device " ++ path
+put_cause image (ImageSize stated found) = codes "image " ++ (image ++ (codes ": " ++ (decimal found ++ (codes " bytes, manifest says " ++ decimal stated))))
+put_cause image (ImageTooLarge size device) = codes "image " ++ (image ++ (codes ": " ++ (decimal size ++ (codes " bytes do not fit device of " ++ decimal device))))

@@ -1,14 +1,14 @@
-ghost use Rattle.std.specs.Prelude.{◌≡◌, IfOk, IsTrue};
+ghost use Rattle.std.specs.Prelude.{◌≡◌, IfOk, IsTrue, None, Ok, Some};
 ghost use Rattle.std.specs.Option.{option_map};
-ghost use Rattle.machine.specs.World.{size_of};
-ghost use Rattle.machine.specs.Past.{Fails, now};
+ghost use Rattle.machine.specs.World.{length_under};
+ghost use Rattle.machine.specs.Past.{Fails, world_now};
 ghost use Rattle.machine.specs.Frames.{Unchanged};
 ghost use Rattle.machine.specs.Stops.{Settles, StopCounted, stop_fault};
-ghost use Rattle.raw_writer.specs.Checking.{check_of, device_for, fits, found, room_for, stated_for};
+ghost use Rattle.raw_writer.specs.Checking.{SettlesLength, check_of, put_cause};
 
-use machine::{CallStop, Machine};
+use machine::{CallStop, Fault, Machine, Stop};
 use std::alloc::Global;
-use updater_text::{Fault, Stop, Text};
+use updater_text::{NoMemory, Text};
 
 /// Why an image is not put on a device. Lengths are in bytes.
 #[derive(Debug, Drop)]
@@ -19,6 +19,32 @@ pub enum PutRefusal {
     ImageTooLarge { size: u64, device: u64 },
 }
 
+/// A refusal in words, for the image under this path. It fails only when out of memory.
+pub fn put_cause(alloc: Global, image: &str, refusal: &PutRefusal) -> Result<Text, NoMemory>
+    ensures { IfOk result (λ t. t ≡ put_cause image.now refusal.now) }
+{
+    match refusal {
+        PutRefusal::NoImage { path } => {
+            let path = path.as_str();
+            Ok(Text::from_string(format!(in alloc; "no image {path}")?))
+        }
+        PutRefusal::NoDevice { path } => {
+            let path = path.as_str();
+            Ok(Text::from_string(format!(in alloc; "no device {path}")?))
+        }
+        PutRefusal::ImageSize { stated, found } => {
+            let text = format!(in alloc; "image {image}: {found} bytes, manifest says {stated}")?;
+            Ok(Text::from_string(text))
+        }
+        PutRefusal::ImageTooLarge { size, device } => {
+            let text = format!(in alloc;
+                "image {image}: {size} bytes do not fit device of {device}"
+            )?;
+            Ok(Text::from_string(text))
+        }
+    }
+}
+
 // The length of what is under the path.
 fn size_under<M: Machine>(
     m: &mut M,
@@ -26,7 +52,7 @@ fn size_under<M: Machine>(
     disk: bool,
 ) -> Result<Option<u64>, Stop<PutRefusal>>
     ensures unchanged { Unchanged M.tells (M.past m.old) (M.past m.new) }
-    ensures answers { IsTrue M.tells → Settles result (found (size_of (now (M.past m.old)) path.now disk)) }
+    ensures answers { IsTrue M.tells → Settles result (Ok (length_under (world_now (M.past m.old)) path.now disk)) }
     ensures fails { Fails M.tells (M.past m.old) (M.past m.new) (stop_fault result) }
     ensures counts { StopCounted (M.faults m.old) (M.faults m.new) (M.wants m.old) (M.wants m.new) result }
 {
@@ -37,26 +63,7 @@ fn size_under<M: Machine>(
     }
 }
 
-// The size, where a device of this length, or None for no device, has room for it.
-fn fits(alloc: Global, device: &str, size: u64, room: Option<u64>) -> Result<u64, Stop<PutRefusal>>
-    ensures { Settles result (fits device.now size room) × (stop_fault result ≡ None) }
-{
-    match room {
-        Some(room) => {
-            if size <= room {
-                Ok(size)
-            } else {
-                Err(Stop::Refused(PutRefusal::ImageTooLarge { size, device: room }))
-            }
-        }
-        None => match Text::new(alloc, device) {
-            Ok(path) => Err(Stop::Refused(PutRefusal::NoDevice { path })),
-            Err(_) => Err(Stop::NoMemory),
-        },
-    }
-}
-
-// The size, where it fits the device.
+// The size, where the device has room for it.
 #[tactic(auto, using(machine::proofs::Joins::unchanged_join, machine::proofs::Failing::fails_join))]
 fn check_room<M: Machine>(
     alloc: Global,
@@ -65,17 +72,27 @@ fn check_room<M: Machine>(
     size: u64,
 ) -> Result<u64, Stop<PutRefusal>>
     ensures unchanged { Unchanged M.tells (M.past m.old) (M.past m.new) }
-    ensures answers { IsTrue M.tells → Settles result (room_for (now (M.past m.old)) device.now size) }
+    ensures answers { IsTrue M.tells → SettlesLength (world_now (M.past m.old)) size None (Some device.now) result }
     ensures fails { Fails M.tells (M.past m.old) (M.past m.new) (stop_fault result) }
     ensures counts { StopCounted (M.faults m.old) (M.faults m.new) (M.wants m.old) (M.wants m.new) result }
 {
     match size_under(m, device, true) {
-        Ok(room) => fits(alloc, device, size, room),
+        Ok(Some(room)) => {
+            if size <= room {
+                Ok(size)
+            } else {
+                Err(Stop::Refused(PutRefusal::ImageTooLarge { size, device: room }))
+            }
+        }
+        Ok(None) => match Text::new(alloc, device) {
+            Ok(path) => Err(Stop::Refused(PutRefusal::NoDevice { path })),
+            Err(_) => Err(Stop::NoMemory),
+        },
         Err(stop) => Err(stop),
     }
 }
 
-// The size, where it fits the device that is named, if any.
+// The size, where the device that is named, if any, has room for it.
 fn check_device<M: Machine>(
     alloc: Global,
     m: &mut M,
@@ -83,7 +100,7 @@ fn check_device<M: Machine>(
     size: u64,
 ) -> Result<u64, Stop<PutRefusal>>
     ensures unchanged { Unchanged M.tells (M.past m.old) (M.past m.new) }
-    ensures answers { IsTrue M.tells → Settles result (device_for (now (M.past m.old)) (option_map (λ d. d.now) device.entry) size) }
+    ensures answers { IsTrue M.tells → SettlesLength (world_now (M.past m.old)) size None (option_map (λ d. d.now) device.entry) result }
     ensures fails { Fails M.tells (M.past m.old) (M.past m.new) (stop_fault result) }
     ensures counts { StopCounted (M.faults m.old) (M.faults m.new) (M.wants m.old) (M.wants m.new) result }
 {
@@ -93,7 +110,7 @@ fn check_device<M: Machine>(
     }
 }
 
-// The size, where it is the stated one, if one is stated, and fits the device.
+// The size, where it is the stated one, if one is stated, and the device has room for it.
 fn check_stated<M: Machine>(
     alloc: Global,
     m: &mut M,
@@ -102,7 +119,7 @@ fn check_stated<M: Machine>(
     size: u64,
 ) -> Result<u64, Stop<PutRefusal>>
     ensures unchanged { Unchanged M.tells (M.past m.old) (M.past m.new) }
-    ensures answers { IsTrue M.tells → Settles result (stated_for (now (M.past m.old)) stated (option_map (λ d. d.now) device.entry) size) }
+    ensures answers { IsTrue M.tells → SettlesLength (world_now (M.past m.old)) size stated (option_map (λ d. d.now) device.entry) result }
     ensures fails { Fails M.tells (M.past m.old) (M.past m.new) (stop_fault result) }
     ensures counts { StopCounted (M.faults m.old) (M.faults m.new) (M.wants m.old) (M.wants m.new) result }
 {
@@ -133,7 +150,7 @@ pub fn check_image<M: Machine>(
     device: Option<&str>,
 ) -> Result<u64, Stop<PutRefusal>>
     ensures unchanged { Unchanged M.tells (M.past m.old) (M.past m.new) }
-    ensures answers { IsTrue M.tells → Settles result (check_of (now (M.past m.old)) image.now size (option_map (λ d. d.now) device.entry)) }
+    ensures answers { IsTrue M.tells → Settles result (check_of (world_now (M.past m.old)) image.now size (option_map (λ d. d.now) device.entry)) }
     ensures fails { Fails M.tells (M.past m.old) (M.past m.new) (stop_fault result) }
     ensures counts { StopCounted (M.faults m.old) (M.faults m.new) (M.wants m.old) (M.wants m.new) result }
 {

@@ -4,5 +4,5 @@
 mod check;
 mod whole;
 
-pub use check::{PutRefusal, check_image};
+pub use check::{PutRefusal, check_image, put_cause};
 pub use whole::{WholeStop, write_whole};

@@ -1,15 +1,15 @@
 ghost use Rattle.std.specs.Prelude.{◌≡◌, ◌<◌, ◌+◌, ◌^◌, length, IsTrue};
-ghost use Rattle.machine.specs.Past.{Fails, now};
-ghost use Rattle.machine.specs.Calls.{HasRoom};
-ghost use Rattle.machine.specs.Frames.{HeldIn, OnlyWrites};
-ghost use Rattle.raw_writer.specs.Whole.{PieceEnds, WholeCounted, WholeEnds, stopped_of, whole_fault};
+ghost use Rattle.machine.specs.Past.{Fails, world_now};
+ghost use Rattle.machine.specs.Calls.{WriteFits};
+ghost use Rattle.machine.specs.Frames.{CrashChangesOnly, ChangesOnly};
+ghost use Rattle.raw_writer.specs.Whole.{CopiesInOrder, OneWriteAtMost, PieceEnds, WholeCounted, WholeEnds, WritesInOrder, pieces, whole_fault, whole_stop};
 
-use machine::{CallStop, Machine, fill};
+use machine::{CallStop, Fault, Machine, fill};
 use sha2::{Digest as Hash, Sha256};
-use updater_text::{Digest, Fault};
+use updater_text::Digest;
 
 /// Why a whole write stopped: a machine call failed, the image ended after `found` bytes, or the
-/// machine wanted memory.
+/// machine was out of memory.
 #[derive(Clone, Copy, Debug, PartialEq, Eq)]
 pub enum WholeStop {
     Outside(Fault),
@@ -17,9 +17,9 @@ pub enum WholeStop {
     NoMemory,
 }
 
-// The stop of a call of this kind.
-fn stopped(stop: CallStop, fault: Fault) -> WholeStop
-    ensures { result ≡ stopped_of stop fault }
+// Why a whole write stops where a call of this kind stopped.
+fn whole_stop(stop: CallStop, fault: Fault) -> WholeStop
+    ensures { result ≡ whole_stop stop fault }
 {
     match stop {
         CallStop::Failed => WholeStop::Outside(fault),
@@ -37,15 +37,16 @@ fn copy_piece<M: Machine>(
 ) -> Result<(), WholeStop>
     requires some { 0 < length piece.old }
     requires ends { at + length piece.old < 2 ^ 64 }
-    requires fits { HasRoom M.tells (M.past m.old) device.now (at + length piece.old) }
-    ensures writes { OnlyWrites M.tells device.now at (at + length piece.old) (M.past m.old) (M.past m.new) }
-    ensures ends { IsTrue M.tells → PieceEnds image.now device.now at piece.new (now (M.past m.old)) (now (M.past m.new)) result }
+    requires fits { WriteFits M.tells (M.past m.old) device.now (at + length piece.old) }
+    ensures writes { ChangesOnly M.tells device.now at (at + length piece.old) (M.past m.old) (M.past m.new) }
+    ensures once { OneWriteAtMost M.tells device.now at (length piece.old) (M.past m.old) (M.past m.new) }
+    ensures ends { IsTrue M.tells → PieceEnds image.now device.now at piece.new (world_now (M.past m.old)) (world_now (M.past m.new)) result }
     ensures fails { Fails M.tells (M.past m.old) (M.past m.new) (whole_fault result) }
     ensures counts { WholeCounted (M.faults m.old) (M.faults m.new) (M.wants m.old) (M.wants m.new) result }
 {
     let found = match fill(m, image, at, piece) {
         Ok(found) => found,
-        Err(stop) => return Err(stopped(stop, Fault::Read)),
+        Err(stop) => return Err(whole_stop(stop, Fault::Read)),
     };
     if found < piece.len() {
         return Err(WholeStop::Short {
@@ -54,7 +55,7 @@ fn copy_piece<M: Machine>(
     }
     match m.write_at(device, at, piece) {
         Ok(()) => Ok(()),
-        Err(stop) => Err(stopped(stop, Fault::Write)),
+        Err(stop) => Err(whole_stop(stop, Fault::Write)),
     }
 }
 
@@ -69,13 +70,17 @@ pub fn write_whole<M: Machine>(
     buffer: &mut [u8],
 ) -> Result<Digest, WholeStop>
     requires buffer { 0 < length buffer.old }
-    requires fits { HasRoom M.tells (M.past m.old) device.now size }
+    requires fits { WriteFits M.tells (M.past m.old) device.now size }
 
-    // At each moment, inside a write too, no more than the front of the device has changed, and so
-    // wherever the power stops.
-    ensures writes { OnlyWrites M.tells device.now 0 size (M.past m.old) (M.past m.new) }
-    ensures held { HeldIn M.tells device.now 0 size (M.past m.old) (M.past m.new) }
-    ensures ends { IsTrue M.tells → WholeEnds image.now device.now (length buffer.old) size (now (M.past m.old)) (now (M.past m.new)) result }
+    // At each moment, inside a write too, the pieces were written in their order, and the device holds
+    // the image's bytes up to the piece that is under way.
+    ensures order { WritesInOrder M.tells (pieces device.now (length buffer.old) size) (M.past m.old) (M.past m.new) }
+    ensures copies { CopiesInOrder M.tells image.now device.now (length buffer.old) size (M.past m.old) (M.past m.new) }
+
+    // No more than the front of the device has changed, and so wherever the power stops.
+    ensures writes { ChangesOnly M.tells device.now 0 size (M.past m.old) (M.past m.new) }
+    ensures held { CrashChangesOnly M.tells device.now 0 size (M.past m.old) (M.past m.new) }
+    ensures ends { IsTrue M.tells → WholeEnds image.now device.now (length buffer.old) size (world_now (M.past m.old)) (world_now (M.past m.new)) result }
     ensures fails { Fails M.tells (M.past m.old) (M.past m.new) (whole_fault result) }
     ensures counts { WholeCounted (M.faults m.old) (M.faults m.new) (M.wants m.old) (M.wants m.new) result }
 {
@@ -94,6 +99,6 @@ pub fn write_whole<M: Machine>(
     }
     match m.sync(device) {
         Ok(()) => Ok(Digest(hasher.finalize())),
-        Err(stop) => Err(stopped(stop, Fault::Sync)),
+        Err(stop) => Err(whole_stop(stop, Fault::Sync)),
     }
 }

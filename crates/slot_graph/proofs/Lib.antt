@@ -1,2 +1,2 @@
-mod Climbing
 mod Ranges
+mod StateLemmas

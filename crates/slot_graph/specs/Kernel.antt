@@ -9,17 +9,17 @@ abbrev pub is_gap : ℕ → Bool
 is_gap byte = is_blank byte || (byte == 10)
 
 -- the words of a command line
-abbrev pub words_of : List ℕ → List (List ℕ)
-words_of line = slice_split is_gap line
+abbrev pub kernel_words : List ℕ → List (List ℕ)
+kernel_words line = slice_split is_gap line
 
 -- this is one of the words
 abbrev pub has_word : List ℕ → List ℕ → Bool
-has_word line word = list_any (λ w. bytes_eq w word) (words_of line)
+has_word line word = list_any (λ w. bytes_eq w word) (kernel_words line)
 
 -- the word begins so
-abbrev pub begins : List ℕ → List ℕ → Bool
-begins front word = bytes_eq (take (length front) word) front
+abbrev pub has_front : List ℕ → List ℕ → Bool
+has_front front word = bytes_eq (take (length front) word) front
 
 -- what follows this front in the first word that begins with it
-abbrev pub value_of : List ℕ → List ℕ → Option (List ℕ)
-value_of line front = option_map (drop (length front)) (find (begins front) (words_of line))
+abbrev pub value_behind : List ℕ → List ℕ → Option (List ℕ)
+value_behind line front = option_map (drop (length front)) (find (has_front front) (kernel_words line))

@@ -1,3 +1,4 @@
+pub mod Archives
 pub mod Booted
 pub mod Kernel
 pub mod Mounts

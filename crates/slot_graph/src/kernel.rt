@@ -1,5 +1,5 @@
 ghost use Rattle.std.specs.Prelude.{◌≡◌, IfSome, find, option_map, true};
-ghost use Rattle.slot_graph.specs.Kernel.{begins, has_word, is_gap, value_of, words_of};
+ghost use Rattle.slot_graph.specs.Kernel.{has_front, has_word, is_gap, value_behind, kernel_words};
 
 fn is_gap(byte: u8) -> bool
     ensures { result ≡ is_gap byte }
@@ -14,24 +14,24 @@ pub fn has_word(line: &[u8], word: &[u8]) -> bool
     line.split(|byte| is_gap(*byte)).any(|other| other == word)
 }
 
-fn begins(word: &[u8], front: &[u8]) -> bool
-    ensures { result ≡ begins front.now word.now }
+fn has_front(word: &[u8], front: &[u8]) -> bool
+    ensures { result ≡ has_front front.now word.now }
 {
     word.starts_with(front)
 }
 
 // The first word of a command line that begins with this front.
 fn first_word<'a>(line: &'a [u8], front: &[u8]) -> Option<&'a [u8]>
-    ensures found { option_map (λ word. word.now) result ≡ find (begins front.now) (words_of line.now) }
-    ensures begins { IfSome result (λ word. begins front.now word.now ≡ true) }
+    ensures found { option_map (λ word. word.now) result ≡ find (has_front front.now) (kernel_words line.now) }
+    ensures front { IfSome result (λ word. has_front front.now word.now ≡ true) }
 {
     line.split(|byte| is_gap(*byte))
-        .find(|word| begins(word, front))
+        .find(|word| has_front(word, front))
 }
 
 /// What follows this front in the first word of a command line that begins with it.
-pub fn value_of<'a>(line: &'a [u8], front: &[u8]) -> Option<&'a [u8]>
-    ensures { option_map (λ value. value.now) result ≡ value_of line.now front.now }
+pub fn value_behind<'a>(line: &'a [u8], front: &[u8]) -> Option<&'a [u8]>
+    ensures { option_map (λ value. value.now) result ≡ value_behind line.now front.now }
 {
     first_word(line, front)?.strip_prefix(front)
 }

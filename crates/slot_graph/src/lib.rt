@@ -1,14 +1,14 @@
-//! Which slots run, which roots they lie under, and what is mounted.
+//! Which slots run, which roots they lie under, what is mounted, and which files are archives.
 #![tactic(auto)]
 
+mod archive;
 mod kernel;
 mod mounted;
 mod roots;
 mod state;
-#[cfg(test)]
-mod tests;
 mod told;
 
+pub use archive::is_archive;
 pub use mounted::{Mount, mounts};
 pub use roots::root_of;
 pub use state::{Booted, SlotState, states};

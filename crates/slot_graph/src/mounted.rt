@@ -1,7 +1,7 @@
 ghost use Rattle.std.specs.Prelude.{◌≡◌, ◌++◌, [], IfOk, MatchOption, OnOk, option_map, slice_get};
 ghost use Rattle.std.specs.List.{cons_option};
 ghost use Rattle.keyfile.specs.Lines.{is_blank};
-ghost use Rattle.slot_graph.specs.Mounts.{IsPlain, IsSplit, decoded, escape_of, mount_in, mounts_of, words_of};
+ghost use Rattle.slot_graph.specs.Mounts.{IsPlain, IsSplit, word_text, escaped_byte, mount_in, mounts_of, mount_words};
 
 use std::alloc::Global;
 use updater_text::{Items, NoMemory};
@@ -15,8 +15,8 @@ pub struct Mount {
 }
 
 // The byte that four bytes stand for, where they are an escape.
-fn escape_of(text: &[u8]) -> Option<u8>
-    ensures { result ≡ escape_of text.now }
+fn escaped_byte(text: &[u8]) -> Option<u8>
+    ensures { result ≡ escaped_byte text.now }
 {
     match text {
         b"\\040" => Some(b' '),
@@ -32,7 +32,7 @@ fn split_escape(word: &[u8]) -> Option<(u8, &[u8])>
     ensures { MatchOption result (IsPlain word.now) (λ split. IsSplit word.now split.0 split.1.now) }
 {
     let (escape, rest) = word.split_at_checked(4)?;
-    let byte = escape_of(escape)?;
+    let byte = escaped_byte(escape)?;
     Some((byte, rest))
 }
 
@@ -48,8 +48,8 @@ fn split_byte(word: &[u8]) -> Option<(u8, &[u8])>
 }
 
 // A word with its escapes read.
-fn decode(alloc: Global, word: &[u8]) -> Result<Items<u8>, NoMemory>
-    ensures { IfOk result (λ text. text ≡ decoded word.now) }
+fn read_word(alloc: Global, word: &[u8]) -> Result<Items<u8>, NoMemory>
+    ensures { IfOk result (λ text. text ≡ word_text word.now) }
 {
     let mut text = Items::new(alloc);
     let mut left = word;
@@ -68,7 +68,7 @@ fn is_blank(byte: u8) -> bool
 
 // The word at a place of a line, counted from 0.
 fn word_at(line: &[u8], at: usize) -> Option<&[u8]>
-    ensures { option_map (λ word. word.now) result ≡ slice_get (words_of line.now) at }
+    ensures { option_map (λ word. word.now) result ≡ slice_get (mount_words line.now) at }
 {
     line.split(|byte| is_blank(*byte))
         .filter(|word| !word.is_empty())
@@ -77,7 +77,7 @@ fn word_at(line: &[u8], at: usize) -> Option<&[u8]>
 
 // What a line says is mounted.
 fn mount_of(alloc: Global, line: &[u8]) -> Result<Option<Mount>, NoMemory>
-    ensures { IfOk result (λ mount. mount ≡ mount_in (words_of line.now)) }
+    ensures { IfOk result (λ mount. mount ≡ mount_in (mount_words line.now)) }
 {
     let Some(device) = word_at(line, 0) else {
         return Ok(None);
@@ -85,15 +85,14 @@ fn mount_of(alloc: Global, line: &[u8]) -> Result<Option<Mount>, NoMemory>
     let Some(point) = word_at(line, 1) else {
         return Ok(None);
     };
-    Ok(Some(Mount {
-        device: decode(alloc, device)?,
-        point: decode(alloc, point)?,
-    }))
+    let device = read_word(alloc, device)?;
+    let point = read_word(alloc, point)?;
+    Ok(Some(Mount { device, point }))
 }
 
 // Puts what a line says is mounted at the end.
 fn push_mount(mounts: &mut Vec<Mount>, alloc: Global, line: &[u8]) -> Result<(), NoMemory>
-    ensures { OnOk result (mounts.new.items ≡ mounts.old.items ++ cons_option (mount_in (words_of line.now)) []) }
+    ensures { OnOk result (mounts.new.items ≡ mounts.old.items ++ cons_option (mount_in (mount_words line.now)) []) }
 {
     if let Some(mount) = mount_of(alloc, line)? {
         mounts.push(mount)?;

@@ -1,9 +1,8 @@
 ghost use Rattle.std.specs.Prelude.{◌≡◌, IfOk};
-ghost use Rattle.slot_graph.specs.Booted.{state_of, states_of};
+ghost use Rattle.slot_graph.specs.Booted.{AreStates, state_of, states_of};
 
-use crate::roots::root_over;
 use std::alloc::Global;
-use system_conf::{Slot, System};
+use system_conf::{Slot, System, root_of};
 use updater_text::NoMemory;
 
 /// What runs: the slots of a root, nothing of the device's slots, or what is not known.
@@ -21,7 +20,7 @@ pub enum Booted {
 pub enum SlotState {
     /// It is the root that is booted.
     Booted,
-    /// Its root is booted.
+    /// It lies under the root that is booted.
     Active,
     Inactive,
 }
@@ -32,14 +31,15 @@ fn state_of(slots: &[Slot], booted: Booted, at: usize) -> SlotState
 {
     match booted {
         Booted::Slot(root) if at == root => SlotState::Booted,
-        Booted::Slot(root) if root_over(slots, at) == root => SlotState::Active,
+        Booted::Slot(root) if root_of(slots, at) == root => SlotState::Active,
         _ => SlotState::Inactive,
     }
 }
 
 /// The state of each slot, in their order, by what is booted.
 pub fn states(alloc: Global, system: &System, booted: Booted) -> Result<Vec<SlotState>, NoMemory>
-    ensures { IfOk result (λ states. states.items ≡ states_of system.now.slots booted) }
+    ensures each { IfOk result (λ states. AreStates system.now.slots booted states.items) }
+    ensures values { IfOk result (λ states. states.items ≡ states_of system.now.slots booted) }
 {
     let slots = system.slots.as_slice();
     let mut states = Vec::new(alloc);

@@ -1,13 +1,11 @@
-ghost use Rattle.std.specs.Prelude.{◌≡◌, codes, option_map, position};
+ghost use Rattle.std.specs.Prelude.{◌≡◌, option_map, position};
 ghost use Rattle.std.specs.Str.{bytes_eq};
-ghost use Rattle.slot_graph.specs.Kernel.{value_of};
 ghost use Rattle.system_conf.specs.Values.{is_at};
-ghost use Rattle.slot_graph.specs.Booted.{booted_by, booted_of, known, slot_meant, slot_on, slot_told};
+ghost use Rattle.slot_graph.specs.Booted.{IsBooted, booted_of, root_booted, slot_in_line, slot_meant, slot_on};
 
 use crate::Booted;
-use crate::kernel::{has_word, value_of};
-use crate::roots::root_over;
-use system_conf::{Slot, System};
+use crate::kernel::{has_word, value_behind};
+use system_conf::{Slot, System, root_of};
 
 // Whether a slot has this bootname.
 fn has_bootname(slot: &Slot, name: &[u8]) -> bool
@@ -52,25 +50,38 @@ fn slot_on(slots: &[Slot], device: &[u8]) -> Option<usize>
         .position(|slot| slot.device.as_bytes() == device)
 }
 
-// The root of a slot.
-fn known(slots: &[Slot], slot: Option<usize>) -> Booted
-    ensures { result ≡ known slots.now slot }
+// The root of the slot that is meant, where one is.
+fn root_booted(slots: &[Slot], slot: Option<usize>) -> Booted
+    ensures { result ≡ root_booted slots.now slot }
 {
     match slot {
-        Some(at) => Booted::Slot(root_over(slots, at)),
+        Some(at) => Booted::Slot(root_of(slots, at)),
         None => Booted::Unknown,
     }
 }
 
-// The place of the slot that a command line tells by a word for the slot, or else by one for the
+// The place of the slot that a command line means by a word for the slot, or else by one for the
 // device.
-fn slot_told(slots: &[Slot], cmdline: &[u8]) -> Option<usize>
-    ensures { result ≡ slot_told slots.now (value_of cmdline.now (codes "rauc.slot=")) (value_of cmdline.now (codes "root=")) }
+fn slot_in_line(slots: &[Slot], cmdline: &[u8]) -> Option<usize>
+    ensures { result ≡ slot_in_line slots.now cmdline.now }
 {
-    match value_of(cmdline, b"rauc.slot=") {
+    match value_behind(cmdline, b"rauc.slot=") {
         Some(name) => slot_meant(slots, name),
-        None => slot_on(slots, value_of(cmdline, b"root=")?),
+        None => slot_on(slots, value_behind(cmdline, b"root=")?),
     }
+}
+
+// What is booted, by the given name or else by the command line.
+fn booted_among(slots: &[Slot], cmdline: &[u8], given: Option<&str>) -> Booted
+    ensures { result ≡ booted_of slots.now cmdline.now (option_map (λ name. name.now) given.entry) }
+{
+    if let Some(name) = given {
+        return root_booted(slots, slot_meant(slots, name.as_bytes()));
+    }
+    if has_word(cmdline, b"rauc.external") {
+        return Booted::External;
+    }
+    root_booted(slots, slot_in_line(slots, cmdline))
 }
 
 /// Which slot is booted, by the given name or else by the kernel's command line (RAUC's chapter
@@ -80,14 +91,8 @@ fn slot_told(slots: &[Slot], cmdline: &[u8]) -> Option<usize>
 /// `root=DEVICE`, which is compared with the devices as text. `Unknown` where nothing matches. It
 /// takes no memory.
 pub fn booted(system: &System, cmdline: &[u8], given: Option<&str>) -> Booted
-    ensures { result ≡ booted_of system.now.slots cmdline.now (option_map (λ name. name.now) given.entry) }
+    ensures root { IsBooted system.now.slots cmdline.now (option_map (λ name. name.now) given.entry) result }
+    ensures value { result ≡ booted_of system.now.slots cmdline.now (option_map (λ name. name.now) given.entry) }
 {
-    let slots = system.slots.as_slice();
-    if let Some(name) = given {
-        return known(slots, slot_meant(slots, name.as_bytes()));
-    }
-    if has_word(cmdline, b"rauc.external") {
-        return Booted::External;
-    }
-    known(slots, slot_told(slots, cmdline))
+    booted_among(system.slots.as_slice(), cmdline, given)
 }

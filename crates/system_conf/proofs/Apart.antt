@@ -8,25 +8,35 @@ use Rattle.std.proofs.lemmas.Bool.{true≢false}
 use Rattle.std.proofs.lemmas.Slice.Eq.{bytes_eq-Decides}
 use Rattle.keyfile.specs.Groups.{Text, Group, get_in}
 use Rattle.conf_forms.specs.Forms.{is_path, is_directory, without_slash}
-use Rattle.conf_forms.specs.Lists.{or_else, passing}
+use Rattle.conf_forms.specs.Lists.{or_else, keep_if}
 use Rattle.conf_forms.specs.SlotNames.{slot_groups, slot_names}
-use Rattle.system_conf.specs.Formed.{is_data_apart, is_status_outside, are_apart}
-use Rattle.system_conf.specs.Refusals.{bad_value, is_index_file, has_index, index_file, is_central}
-use Rattle.system_conf.specs.Slots.{slots_of}
-use Rattle.system_conf.specs.Values.{loader_of, mount_prefix_of, data_directory_of, grubenv_of, grub_file_of, central_file, status_file_of, boot_of, is_within, is_at}
+use Rattle.system_conf.specs.Configuration.{configuration}
+use Rattle.system_conf.specs.Conflicts.{is_index_file, has_index, index_file, is_central}
+use Rattle.system_conf.specs.Formed.{are_apart}
+use Rattle.system_conf.specs.Refusals.{bad_value}
+use Rattle.system_conf.specs.Values.{loader_of, mount_prefix_of, data_directory_of, grubenv_of, grub_file_of, central_file, status_file_of, is_at}
+use Rattle.updater_text.specs.Paths.{is_within}
+use Rattle.conf_forms.proofs.Values.{or_parts}
 use Rattle.system_conf.proofs.Differ.{names_of}
-use Rattle.system_conf.proofs.SlotForms.{passing_is}
+use Rattle.system_conf.proofs.SlotForms.{keep_if_is}
 use Rattle.system_conf.proofs.Soundness.{boot_file-boot_of}
-use Rattle.system_conf.proofs.WellFormed.{kept_if, not_taken, or_parts, or_true, same_bytes}
+use Rattle.system_conf.proofs.WellFormed.{kept_if, not_taken, or_true, same_bytes}
+
+-- the parts of a configuration, by the values that they are about
+abbrev is_data_outside : Text → Option Text → Bool
+is_data_outside mount_prefix data_directory = option_map_or (λ directory. not (is_within mount_prefix directory)) data_directory true
+
+abbrev is_outside : Text → Option Text → Text → Bool
+is_outside mount_prefix data_directory path = not (is_within mount_prefix path) || is_at (option_map central_file data_directory) path
 
 -- ---- the data directory
 
-data_apart : (groups : List Group) → bad_value groups ≡ None → is_data_apart (mount_prefix_of groups) (data_directory_of groups) ≡ true
+data_apart : (groups : List Group) → bad_value groups ≡ None → is_data_outside (mount_prefix_of groups) (data_directory_of groups) ≡ true
 data_apart groups fine = go (get_in groups (codes "system") (codes "data-directory")) refl
   where
-    go : (o : Option Text) → get_in groups (codes "system") (codes "data-directory") ≡ o → is_data_apart (mount_prefix_of groups) (option_map without_slash (passing is_directory o)) ≡ true
+    go : (o : Option Text) → get_in groups (codes "system") (codes "data-directory") ≡ o → is_data_outside (mount_prefix_of groups) (option_map without_slash (keep_if is_directory o)) ≡ true
     go None e = refl
-    go (Some v) e = kept_if is_directory v (λ (o : Option Text). is_data_apart (mount_prefix_of groups) (option_map without_slash o) ≡ true) (λ _. ap not (not_taken groups fine (codes "data-directory") v e)) refl
+    go (Some v) e = kept_if is_directory v (λ (o : Option Text). is_data_outside (mount_prefix_of groups) (option_map without_slash o) ≡ true) (λ _. ap not (not_taken groups fine (codes "data-directory") v e)) refl
 
 -- ---- the file that a data directory has
 
@@ -76,7 +86,7 @@ grubenv_apart groups fine grub d kept status = go (get_in groups (codes "system"
     named : (v : Text) → get_in groups (codes "system") (codes "grubenv") ≡ Some v → bytes_eq v (central_file d) ≡ false
     named v e = sym (λ i. is_grub i && (is_own i && is_at (status i) v)) ∙ not_taken groups fine (codes "grubenv") v e
 
-    go : (o : Option Text) → get_in groups (codes "system") (codes "grubenv") ≡ o → bytes_eq (central_file d) (unwrap_or (passing is_path o) (codes "/boot/grub/grubenv")) ≡ false
+    go : (o : Option Text) → get_in groups (codes "system") (codes "grubenv") ≡ o → bytes_eq (central_file d) (unwrap_or (keep_if is_path o) (codes "/boot/grub/grubenv")) ≡ false
     go None e = no_default d
     go (Some v) e = kept_if is_path v (λ (o : Option Text). bytes_eq (central_file d) (unwrap_or o (codes "/boot/grub/grubenv")) ≡ false) (λ _. other_way v (central_file d) (named v e)) (no_default d)
 
@@ -90,7 +100,7 @@ grub_apart groups fine d kept status = go (bytes_eq (loader_of groups) (codes "g
 -- ---- the status file
 
 abbrev is_fine : List Group → Text → Bool
-is_fine groups path = is_status_outside (mount_prefix_of groups) (data_directory_of groups) path && (not (is_index_file groups path) && not (is_at (grub_file_of groups) path))
+is_fine groups path = is_outside (mount_prefix_of groups) (data_directory_of groups) path && (not (is_index_file groups path) && not (is_at (grub_file_of groups) path))
 
 given_fine : (groups : List Group) → bad_value groups ≡ None → (v : Text) → get_in groups (codes "system") (codes "statusfile") ≡ Some v → is_fine groups v ≡ true
 given_fine groups fine v is =
@@ -105,19 +115,20 @@ own_fine groups fine d kept status =
     ∙ (λ i. or_true (not (is_within (mount_prefix_of groups) (central_file d))) _ (same_bytes (central_file d)) i && (not (no_index_among d (slot_names groups) i) && true))
 
 status_fine : (groups : List Group) → bad_value groups ≡ None → option_map_or (is_fine groups) (status_file_of groups) true ≡ true
-status_fine groups fine = given (passing is_path (get_in groups (codes "system") (codes "statusfile"))) refl
+status_fine groups fine = given (keep_if is_path (get_in groups (codes "system") (codes "statusfile"))) refl
   where
     own : (d : Option Text) → data_directory_of groups ≡ d → status_file_of groups ≡ option_map central_file d → option_map_or (is_fine groups) (option_map central_file d) true ≡ true
     own None kept status = refl
     own (Some d) kept status = own_fine groups fine d kept status
 
-    given : (o : Option Text) → passing is_path (get_in groups (codes "system") (codes "statusfile")) ≡ o → option_map_or (is_fine groups) (or_else o (option_map central_file (data_directory_of groups))) true ≡ true
-    given (Some v) e = given_fine groups fine v (passing_is is_path (get_in groups (codes "system") (codes "statusfile")) v e).0
+    given : (o : Option Text) → keep_if is_path (get_in groups (codes "system") (codes "statusfile")) ≡ o → option_map_or (is_fine groups) (or_else o (option_map central_file (data_directory_of groups))) true ≡ true
+    given (Some v) e = given_fine groups fine v (keep_if_is is_path (get_in groups (codes "system") (codes "statusfile")) v e).0
     given None e = own (data_directory_of groups) refl (ap (λ (o : Option Text). or_else o (option_map central_file (data_directory_of groups))) e)
 
-pub places_apart : (groups : List Group) → bad_value groups ≡ None → are_apart (boot_of groups) (mount_prefix_of groups) (status_file_of groups) (data_directory_of groups) (slots_of groups) ≡ true
+pub places_apart : (groups : List Group) → bad_value groups ≡ None → are_apart (configuration groups) ≡ true
+unfolding configuration
 places_apart groups fine =
-    (λ i. is_data_apart (mount_prefix_of groups) (data_directory_of groups)
-    && option_map_or (λ (path : Text). is_status_outside (mount_prefix_of groups) (data_directory_of groups) path
+    (λ i. is_data_outside (mount_prefix_of groups) (data_directory_of groups)
+    && option_map_or (λ (path : Text). is_outside (mount_prefix_of groups) (data_directory_of groups) path
     && (not (option_map_or (λ directory. has_index directory path (names_of groups (slot_groups groups) i)) (data_directory_of groups) false) && not (is_at (boot_file-boot_of groups i) path))) (status_file_of groups) true)
     ∙ (λ i. data_apart groups fine i && status_fine groups fine i)

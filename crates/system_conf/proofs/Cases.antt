@@ -2,7 +2,8 @@
 use Rattle.std.proofs.Common.{◌≡◌, true, false, List, [], ◌∷◌, ◌++◌, map, Option, Some, None, codes, refl}
 use Rattle.boot_model.specs.declared.boot_kind.BootKind.TheVariants as boot
 use Rattle.keyfile.specs.Groups.{Text, Entry, Group}
-use Rattle.system_conf.specs.Refusals.{Configuration, refusal_of, configuration, missing, unknown_key, left_out, bad_value, bad_slot_name, too_many, same_device, same_bootname, no_parent, parent_cycle, child_boot_name, device_is_file}
+use Rattle.system_conf.specs.Configuration.{Configuration, configuration}
+use Rattle.system_conf.specs.Refusals.{first_refusal, missing, unknown_key, left_out, bad_value, bad_slot_name, too_many, same_device, same_bootname, no_parent, parent_cycle, child_boot_name, device_is_file}
 use Rattle.system_conf.specs.declared.conf_refusal.ConfRefusal.{ConfRefusal}
 use Rattle.system_conf.specs.declared.conf_refusal.ConfRefusal.TheVariants.{Missing, UnknownKey, LeftOut, BadValue, BadSlotName, SameDevice, SameBootName, NoParent, ParentCycle, ChildBootName, DeviceIsFile}
 use Rattle.system_conf.specs.declared.slot.SlotKind.TheVariants as slot
@@ -120,7 +121,7 @@ cases =
     ∷ (beside_first (key (codes "device") (codes "/mnt/rauc/b")), Some (DeviceIsFile (codes "rootfs.1")))
     ∷ (beside_first (key (codes "device") (codes "/mnt/rauc")), None) ∷ []
 
-refused : map (λ c. refusal_of c.0) cases ≡ map (λ c. c.1) cases
+refused : map (λ c. first_refusal c.0) cases ≡ map (λ c. c.1) cases
 unfolding missing unknown_key left_out bad_value bad_slot_name too_many same_device same_bootname no_parent parent_cycle child_boot_name device_is_file configuration
 refused = refl
 
@@ -133,7 +134,7 @@ gateway =
     ++ group (codes "slot.rootfs.0") (key (codes "device") (codes "/dev/mmcblk0p2") ++ key (codes "type") (codes "ext4") ++ key (codes "bootname") (codes "A"))
     ++ group (codes "slot.appfs.0") (key (codes "device") (codes "/dev/mmcblk0p4") ++ key (codes "type") (codes "nand") ++ key (codes "parent") (codes "rootfs.0") ++ key (codes "install-same") (codes "0"))
 
-gateway_accepted : refusal_of gateway ≡ None
+gateway_accepted : first_refusal gateway ≡ None
 unfolding missing unknown_key left_out bad_value bad_slot_name too_many same_device same_bootname no_parent parent_cycle child_boot_name device_is_file configuration
 gateway_accepted = refl
 

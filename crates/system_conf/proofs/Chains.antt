@@ -1,13 +1,13 @@
 -- Chains of parents end exactly where there is a root.
-use Rattle.std.proofs.Common.{◌≡◌, ◌<◌, ℕ, zero, suc, Bool, true, false, ◌||◌, nat_lt, List, [], ◌∷◌, length, Option, Some, None, slice_get, get_or, option_map, option_and_then, eqb, refl, sym, ◌∙◌, ap, subst, arith, ltb-true}
+use Rattle.std.proofs.Common.{◌≡◌, ◌<◌, ◌≤◌, ℕ, zero, suc, Bool, true, false, ◌||◌, nat_lt, List, [], ◌∷◌, length, Option, Some, None, slice_get, option_map, option_and_then, eqb, refl, sym, ◌∙◌, ap, subst, arith, ltb-true}
 use Rattle.std.specs.Prelude.{is_none}
 use Rattle.std.specs.Option.{option_map_or}
 use Rattle.std.specs.List.{IsDistinct, AllByRecursion, list_any, list_all}
 use Rattle.std.proofs.lemmas.Bool.{eqb-true, and_parts, true≢false}
 use Rattle.std.proofs.lemmas.Option.{slice_get_within, slice_get-get_or}
 use Rattle.std.proofs.lemmas.Map.Steps.{length-le_from_distinct_below}
-use Rattle.system_conf.specs.Slots.{parent_at, ancestor, chain_ends}
-use Rattle.system_conf.specs.Parents.{LeadsTo, IsRoot, HasRoot, HasOneRoot, ChainsEndAtRoots}
+use Rattle.system_conf.specs.Slots.{parent_at, climb, root_over, chain_ends}
+use Rattle.system_conf.specs.Parents.{LeadsTo, Under, IsRoot, IsRootOf, HasRoot, HasOneRoot, ChainsEndAtRoots}
 use Rattle.system_conf.specs.Sound.{parents_stand}
 use Rattle.system_conf.specs.declared.slot.Slot.{Slot}
 
@@ -96,13 +96,23 @@ way_short slots s way r h root = let few = length-le_from_distinct_below (s ∷ 
 
 -- ---- from a root to the end of the chain
 
-past_root : (slots : List Slot) (s : ℕ) (way : List ℕ) (r steps : ℕ) → LeadsTo slots s way r → IsRoot slots r → length way < steps → ancestor slots steps s ≡ None
-past_root slots s way r zero h root few = absurd (omega (arith, few))
-past_root slots s [] r (suc steps) h root few = ap (option_and_then (ancestor slots steps)) (ap (parent_at slots) h ∙ root_ends slots r root)
-past_root slots s (p ∷ way) r (suc steps) h root few = ap (option_and_then (ancestor slots steps)) h.0 ∙ past_root slots p way r steps h.1 root (omega (arith, few))
+reaches_root : (slots : List Slot) (s : ℕ) (way : List ℕ) (r steps : ℕ) → LeadsTo slots s way r → IsRoot slots r → length way ≤ steps → climb slots steps s ≡ r
+reaches_root slots s [] r zero h root few = h
+reaches_root slots s [] r (suc steps) h root few = ap (λ (o : Option ℕ). option_map_or (climb slots steps) o s) (ap (parent_at slots) h ∙ root_ends slots r root) ∙ h
+reaches_root slots s (p ∷ way) r zero h root few = absurd (omega (arith, few))
+reaches_root slots s (p ∷ way) r (suc steps) h root few = ap (λ (o : Option ℕ). option_map_or (climb slots steps) o s) h.0 ∙ reaches_root slots p way r steps h.1 root (omega (arith, few))
+
+end_is_root : (slots : List Slot) (at : ℕ) (h : HasRoot slots at) → root_over slots at ≡ h.0
+end_is_root slots at h =
+    let short = way_short slots at h.1.1.0 h.0 h.1.1.1 h.1.0 in
+    reaches_root slots at h.1.1.0 h.0 (length slots) h.1.1.1 h.1.0 (omega (arith, short))
 
 ends_from_root : (slots : List Slot) (at : ℕ) → HasRoot slots at → chain_ends slots at ≡ true
-ends_from_root slots at h = ap is_none (past_root slots at h.1.1.0 h.0 (length slots) h.1.1.1 h.1.0 (way_short slots at h.1.1.0 h.0 h.1.1.1 h.1.0))
+ends_from_root slots at h = ap is_none (ap (parent_at slots) (end_is_root slots at h) ∙ root_ends slots h.0 h.1.0)
+
+-- what lies at the end is the root, where there is one
+pub root_of_chain : (slots : List Slot) (at r : ℕ) → r ≡ root_over slots at → HasRoot slots at → IsRootOf slots at r
+root_of_chain slots at r is h = subst (IsRootOf slots at) (sym (is ∙ end_is_root slots at h)) h.1
 
 -- ---- and back
 
@@ -114,30 +124,52 @@ slot_stands n (x ∷ xs) h (suc at) s e = slot_stands n xs (and_parts (option_ma
 pub parent_stands : (slots : List Slot) → parents_stand slots ≡ true → (at : ℕ) (s : Slot) (p : ℕ) → slice_get slots at ≡ Some s → s.parent ≡ Some p → p < length slots
 parent_stands slots stand at s p e up = ltb-true p (length slots) (sym (ap (λ (o : Option ℕ). option_map_or (λ q. nat_lt q (length slots)) o true) up) ∙ slot_stands (length slots) slots stand at s e)
 
-root_from_end : (slots : List Slot) → parents_stand slots ≡ true → (steps at : ℕ) → at < length slots → ancestor slots steps at ≡ None → HasRoot slots at
-root_from_end slots stand zero at within ends = absurd (cc)
-root_from_end slots stand (suc steps) at within ends =
-    let there = slice_get-get_or slots at (first_of_list slots within) within in
-    go (get_or slots at (first_of_list slots within)) there _ refl (λ p w e. root_from_end slots stand steps p w e)
-  where
-    first_of_list : (xs : List Slot) → at < length xs → Slot
-    first_of_list [] w = absurd (omega (arith, w))
-    first_of_list (x ∷ xs) w = x
+climb_once : (slots : List Slot) (steps at : ℕ) (o : Option ℕ) → parent_at slots at ≡ o → climb slots (suc steps) at ≡ option_map_or (climb slots steps) o at
+climb_once slots steps at o e = ap (λ p. option_map_or (climb slots steps) p at) e
 
-    go : (s : Slot) → slice_get slots at ≡ Some s → (o : Option ℕ) → s.parent ≡ o → ((p : ℕ) → p < length slots → ancestor slots steps p ≡ None → HasRoot slots p) → HasRoot slots at
-    go s is None e more = (at, (ap (option_map (λ (t : Slot). t.parent)) is ∙ ap (λ (o : Option ℕ). Some o) e, ([], refl)))
-    go s is (Some p) e more =
-        let up : parent_at slots at ≡ Some p = ap (option_and_then (λ (t : Slot). t.parent)) is ∙ e in
-        let above = more p (parent_stands slots stand at s p is e) (sym (ap (option_and_then (ancestor slots steps)) up) ∙ ends) in
-        (above.0, (above.1.0, (p ∷ above.1.1.0, (up, above.1.1.1))))
+-- the end lies over the slot
+climb_under : (slots : List Slot) (steps at : ℕ) → Under slots at (climb slots steps at)
+climb_under slots zero at = ([], refl)
+climb_under slots (suc steps) at = go (parent_at slots at) refl (climb_under slots steps)
+  where
+    go : (o : Option ℕ) → parent_at slots at ≡ o → ((p : ℕ) → Under slots p (climb slots steps p)) → Under slots at (climb slots (suc steps) at)
+    go None e more = ([], sym (climb_once slots steps at None e))
+    go (Some p) e more = let way = more p in (p ∷ way.0, (e, subst (LeadsTo slots p way.0) (sym (climb_once slots steps at (Some p) e)) way.1))
+
+-- it is a slot
+climb_within : (slots : List Slot) (steps at : ℕ) → parents_stand slots ≡ true → at < length slots → climb slots steps at < length slots
+climb_within slots zero at stand within = within
+climb_within slots (suc steps) at stand within = go (parent_at slots at) refl (climb_within slots steps)
+  where
+    up : (o : Option Slot) (p : ℕ) → slice_get slots at ≡ o → option_and_then (λ (s : Slot). s.parent) o ≡ Some p → p < length slots
+    up (Some s) p e h = parent_stands slots stand at s p e h
+    up None p e h = absurd (cc)
+
+    go : (o : Option ℕ) → parent_at slots at ≡ o → ((p : ℕ) → parents_stand slots ≡ true → p < length slots → climb slots steps p < length slots) → climb slots (suc steps) at < length slots
+    go None e more = subst (λ k. k < length slots) (sym (climb_once slots steps at None e)) within
+    go (Some p) e more = subst (λ k. k < length slots) (sym (climb_once slots steps at (Some p) e)) (more p stand (up (slice_get slots at) p refl e))
+
+root_at : (slots : List Slot) (r : ℕ) → r < length slots → parent_at slots r ≡ None → IsRoot slots r
+root_at slots r within none = go (slice_get slots r) refl none
+  where
+    there : (xs : List Slot) → r < length xs → Slot
+    there [] w = absurd (omega (arith, w))
+    there (x ∷ xs) w = x
+
+    go : (o : Option Slot) → slice_get slots r ≡ o → option_and_then (λ (s : Slot). s.parent) o ≡ None → IsRoot slots r
+    go (Some s) e h = ap (option_map (λ (t : Slot). t.parent)) e ∙ ap (λ (p : Option ℕ). Some p) h
+    go None e h = let x = slice_get-get_or slots r (there slots within) within in absurd (cc)
 
 pub none_is : {A : Type 0} (o : Option A) → is_none o ≡ true → o ≡ None
 none_is (Some x) h = absurd (true≢false (sym h))
 none_is None h = refl
 
+root_from_end : (slots : List Slot) (at : ℕ) → parents_stand slots ≡ true → at < length slots → chain_ends slots at ≡ true → HasRoot slots at
+root_from_end slots at stand within ends =
+    (root_over slots at, (root_at slots (root_over slots at) (climb_within slots (length slots) at stand within) (none_is (parent_at slots (root_over slots at)) ends), climb_under slots (length slots) at))
+
 pub chains_end : (slots : List Slot) → parents_stand slots ≡ true → ChainsEndAtRoots slots
-chains_end slots stand at within =
-    ((λ ends. root_from_end slots stand (length slots) at within (none_is (ancestor slots (length slots) at) ends)), ends_from_root slots at)
+chains_end slots stand at within = ((λ ends. root_from_end slots at stand within ends), ends_from_root slots at)
 
 -- a root is the only one
 pub one_root : (slots : List Slot) (at : ℕ) → HasRoot slots at → HasOneRoot slots at

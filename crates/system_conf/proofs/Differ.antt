@@ -7,7 +7,8 @@ use Rattle.std.proofs.lemmas.Bool.{and_parts, true≢false}
 use Rattle.std.proofs.lemmas.List.{take-append-drop}
 use Rattle.std.proofs.lemmas.Slice.Eq.{bytes_eq-Decides}
 use Rattle.keyfile.specs.Groups.{Text, Group}
-use Rattle.conf_forms.specs.SlotNames.{name_of, class_of, index_of, index_in, is_class, is_slot_group, slot_groups}
+use Rattle.conf_forms.specs.Classes.{is_class}
+use Rattle.conf_forms.specs.SlotNames.{name_of, class_of, index_of, index_in, is_slot_group, slot_groups}
 use Rattle.system_conf.specs.Slots.{slots_of, slot_of}
 use Rattle.system_conf.specs.declared.slot.Slot.{Slot}
 

@@ -2,13 +2,11 @@ mod Apart
 mod Cases
 pub mod Chains
 mod Differ
-mod Entries
-pub mod FirstOf
-mod Mandatory
+mod DeviceKeys
 mod Names
-pub mod Numbered
 pub mod Rootless
 mod SlotForms
 mod SlotGroups
+pub mod Sound
 mod Soundness
 mod WellFormed

@@ -1,31 +1,34 @@
 -- What reading a configuration says of roots.
-use Rattle.std.proofs.Common.{◌≡◌, ◌<◌, ℕ, zero, suc, ◌+◌, Bool, true, false, cond, List, [], ◌∷◌, length, take, Option, Some, None, Result, Ok, Err, slice_get, option_map, refl, sym, ◌∙◌, ap, arith}
+use Rattle.std.proofs.Common.{◌≡◌, ◌<◌, ℕ, zero, suc, ◌+◌, Bool, true, false, cond, List, [], ◌∷◌, length, Option, Some, None, Result, Ok, Err, slice_get, option_map, refl, sym, ◌∙◌, ap, arith}
 use Rattle.std.specs.Option.{option_map_or}
-use Rattle.std.specs.Prelude.{is_none}
 use Rattle.std.specs.List.{enumerate_from}
 use Rattle.std.proofs.lemmas.Bool.{true≢false}
 use Rattle.updater_text.specs.declared.stops.Lack.{Lack}
 use Rattle.updater_text.specs.declared.stops.Lack.TheVariants as lack
-use Rattle.boot_model.specs.declared.boot_kind.BootKind.{BootKind}
-use Rattle.keyfile.specs.Groups.{Text, Group, get_in}
+use Rattle.keyfile.specs.Groups.{Text, Group}
 use Rattle.conf_forms.specs.Lists.{or_else, first_of}
 use Rattle.conf_forms.specs.SlotNames.{name_of, slot_groups}
-use Rattle.system_conf.specs.Slots.{slots_of, chain_ends}
-use Rattle.system_conf.specs.Parents.{HasRoot, AreRooted, IsFirstRootless, ChainsEndAtRoots, RootsTold}
+use Rattle.conf_forms.specs.Walks.{first_bad, first_left_out, first_unknown}
+use Rattle.system_conf.specs.Slots.{slots_of, chain_ends, root_over}
+use Rattle.system_conf.specs.Parents.{HasRoot, IsRootOf, AreRooted, IsFirstRootless, ChainsEndAtRoots, RootsTold}
 use Rattle.system_conf.specs.Reads.{Reads}
-use Rattle.system_conf.specs.Sound.{are_unrefused, parents_stand}
-use Rattle.system_conf.specs.Refusals.{first_row, boot_kept, Configuration, configuration, system_of, unless_refused, refusal_of, mandatory, missing_at, missing, unknown_key, left_out, bad_value, misnamed, is_misnamed, bad_slot_name, too_many, alike, twins, twin_of, same_device, same_bootname, has_parent, orphan, no_parent, endless, parent_cycle, booted_child, child_boot_name, is_kept, kept_of, kept_device, device_is_file, first_place}
-use Rattle.system_conf.specs.declared.places.Fault.TheVariants as fault
-use Rattle.system_conf.specs.declared.shared.Shared.TheVariants as shared
+use Rattle.system_conf.specs.Sound.{AreSlotsSound}
+use Rattle.system_conf.specs.Refusals.{system_of, unless_refused, first_refusal, missing, unknown_key, left_out, bad_value, bad_name_of, is_bad_slot_group, bad_slot_name, too_many, same_device, same_bootname, has_parent, orphan, no_parent, endless, parent_cycle, bootable_child, child_boot_name, device_is_file}
+use Rattle.system_conf.specs.Configuration.{Configuration, configuration}
+use Rattle.system_conf.specs.Conflicts.{is_conflict}
+use Rattle.system_conf.specs.Duplicates.{first_pair, has_same_bootname, has_same_device}
+use Rattle.system_conf.specs.KeyTable.{system_table}
+use Rattle.system_conf.specs.Mandatory.{first_missing}
+use Rattle.system_conf.specs.OwnFiles.{own_device, own_files_of}
 use Rattle.system_conf.specs.declared.conf_refusal.ConfRefusal.{ConfRefusal}
 use Rattle.system_conf.specs.declared.conf_refusal.ConfRefusal.TheVariants as refusal
 use Rattle.system_conf.specs.declared.slot.Slot.{Slot}
 use Rattle.system_conf.specs.declared.system.System.{System}
-use Rattle.system_conf.proofs.Chains.{chains_end, none_is, one_root}
-use Rattle.system_conf.proofs.FirstOf.{both_none}
+use Rattle.system_conf.proofs.Chains.{chains_end, none_is, one_root, root_of_chain}
+use Rattle.conf_forms.proofs.FirstOf.{both_none}
 use Rattle.system_conf.proofs.Soundness.{parents_read}
 
--- ---- what the row of cycles says
+-- ---- what the refusal of cycles says
 
 ends_if : (b : Bool) (why : ConfRefusal) → cond b None (Some why) ≡ None → b ≡ true
 ends_if true why h = refl
@@ -65,7 +68,7 @@ first_endless slots (x ∷ xs) n name h = go (chain_ends slots n) refl h (λ lat
         let called : x.name ≡ name = cc in
         (0, ap (λ (t : Text). Some t) called, ap (chain_ends slots) same ∙ e, λ k l. absurd (omega (arith, l)))
 
--- ---- no other row tells of a cycle
+-- ---- no other refusal tells of a cycle
 
 abbrev is_cycle : ConfRefusal → Bool
 is_cycle (refusal.ParentCycle name) = true
@@ -96,23 +99,23 @@ other_map f None each = refl
 
 other_missing : (groups : List Group) → IsOther (missing groups)
 unfolding missing
-other_missing groups = other_first (missing_at groups) (mandatory groups) (λ m. other_if (is_none (get_in groups m.0 m.1)) (refusal.Missing m.0 m.1) refl)
+other_missing groups = other_map (λ p. refusal.Missing p.0 p.1) (first_missing groups) (λ p. refl)
 
 other_unknown_key : (groups : List Group) → IsOther (unknown_key groups)
 unfolding unknown_key
-other_unknown_key groups = other_map (λ p. refusal.UnknownKey p.0 p.1) (first_place fault.Unknown groups) (λ p. refl)
+other_unknown_key groups = other_map (λ p. refusal.UnknownKey p.0 p.1) (first_unknown system_table groups) (λ p. refl)
 
 other_left_out : (groups : List Group) → IsOther (left_out groups)
 unfolding left_out
-other_left_out groups = other_map (λ p. refusal.LeftOut p.0 p.1) (first_place fault.LeftOut groups) (λ p. refl)
+other_left_out groups = other_map (λ p. refusal.LeftOut p.0 p.1) (first_left_out system_table groups) (λ p. refl)
 
 other_bad_value : (groups : List Group) → IsOther (bad_value groups)
 unfolding bad_value
-other_bad_value groups = other_map (λ p. refusal.BadValue p.0 p.1) (first_place fault.Bad groups) (λ p. refl)
+other_bad_value groups = other_map (λ p. refusal.BadValue p.0 p.1) (first_bad system_table (is_conflict groups) groups) (λ p. refl)
 
 other_bad_slot_name : (groups : List Group) → IsOther (bad_slot_name groups)
 unfolding bad_slot_name
-other_bad_slot_name groups = other_first misnamed groups (λ g. other_if (is_misnamed g.0) (refusal.BadSlotName g.0) refl)
+other_bad_slot_name groups = other_first bad_name_of groups (λ g. other_if (is_bad_slot_group g.0) (refusal.BadSlotName g.0) refl)
 
 other_too_many : (slots : List Slot) → IsOther (too_many slots)
 unfolding too_many
@@ -120,15 +123,11 @@ other_too_many slots = other_if _ (refusal.TooMany (length slots)) refl
 
 other_same_device : (slots : List Slot) → IsOther (same_device slots)
 unfolding same_device
-other_same_device slots =
-    other_first (twin_of shared.Device slots) (enumerate_from 0 slots)
-    (λ later. other_first (twins shared.Device later.1) (take later.0 slots) (λ earlier. other_if (alike shared.Device earlier later.1) (refusal.SameDevice earlier.name later.1.name) refl))
+other_same_device slots = other_map (λ p. refusal.SameDevice p.0 p.1) (first_pair has_same_device slots) (λ p. refl)
 
 other_same_bootname : (slots : List Slot) → IsOther (same_bootname slots)
 unfolding same_bootname
-other_same_bootname slots =
-    other_first (twin_of shared.Bootname slots) (enumerate_from 0 slots)
-    (λ later. other_first (twins shared.Bootname later.1) (take later.0 slots) (λ earlier. other_if (alike shared.Bootname earlier later.1) (refusal.SameBootName earlier.name later.1.name) refl))
+other_same_bootname slots = other_map (λ p. refusal.SameBootName p.0 p.1) (first_pair has_same_bootname slots) (λ p. refl)
 
 other_no_parent : (groups : List Group) → IsOther (no_parent groups)
 unfolding no_parent
@@ -136,11 +135,11 @@ other_no_parent groups = other_first (orphan groups) (slot_groups groups) (λ g.
 
 other_child_boot_name : (slots : List Slot) → IsOther (child_boot_name slots)
 unfolding child_boot_name
-other_child_boot_name slots = other_first booted_child slots (λ s. other_if _ (refusal.ChildBootName s.name) refl)
+other_child_boot_name slots = other_first bootable_child slots (λ s. other_if _ (refusal.ChildBootName s.name) refl)
 
 other_device_is_file : (groups : List Group) (slots : List Slot) → IsOther (device_is_file groups slots)
 unfolding device_is_file
-other_device_is_file groups slots = other_first (kept_device (kept_of groups)) slots (λ s. other_if (is_kept (kept_of groups) s.device) (refusal.DeviceIsFile s.name) refl)
+other_device_is_file groups slots = other_map (λ name. refusal.DeviceIsFile name) (first_of (own_device (own_files_of groups)) slots) (λ name. refl)
 
 no_other : (o : Option ConfRefusal) (name : Text) → IsOther o → o ≡ Some (refusal.ParentCycle name) → ⊥
 no_other o name other h = true≢false (sym (ap (λ (p : Option ConfRefusal). option_map_or is_cycle p false) h) ∙ other)
@@ -160,8 +159,8 @@ other_or None b p q = q
 other_none : IsOther None
 other_none = refl
 
-cycle_row : (groups : List Group) (name : Text) → refusal_of groups ≡ Some (refusal.ParentCycle name) → parent_cycle (slots_of groups) ≡ Some (refusal.ParentCycle name)
-cycle_row groups name h =
+first_cycle : (groups : List Group) (name : Text) → first_refusal groups ≡ Some (refusal.ParentCycle name) → parent_cycle (slots_of groups) ≡ Some (refusal.ParentCycle name)
+first_cycle groups name h =
     let slots = slots_of groups in
     let h1 = skipped (missing groups) _ name (other_missing groups) h in
     let h2 = skipped (unknown_key groups) _ name (other_unknown_key groups) h1 in
@@ -184,21 +183,22 @@ pub chains_read : (groups : List Group) → ChainsEndAtRoots (slots_of groups)
 chains_read groups = chains_end (slots_of groups) (parents_read groups)
 
 -- the slots of a system lie under one root each
-pub rooted : (boot : BootKind) (mount_prefix : Text) (status_file data_directory : Option Text) (slots : List Slot) → parents_stand slots ≡ true → are_unrefused boot mount_prefix status_file data_directory slots ≡ true → AreRooted slots
+pub rooted : (slots : List Slot) → AreSlotsSound slots → AreRooted slots
 unfolding parent_cycle
-rooted boot mount_prefix status_file data_directory slots stand fine at within =
-    let none = none_is (first_row (too_many slots ∷ same_device slots ∷ same_bootname slots ∷ parent_cycle slots ∷ child_boot_name slots ∷ first_of (kept_device (boot_kept boot mount_prefix status_file data_directory)) slots ∷ [])) fine in
-    let after_devices = (both_none (same_device slots) _ (both_none (too_many slots) _ none).1).1 in
-    let no_cycle = (both_none (parent_cycle slots) _ (both_none (same_bootname slots) _ after_devices).1).0 in
-    let ends = none_endless slots slots 0 no_cycle at within in
-    one_root slots at ((chains_end slots stand at within).0 (ap (chain_ends slots) (sym (at_zero at)) ∙ ends))
+rooted slots sound at within =
+    let ends = none_endless slots slots 0 (none_is (parent_cycle slots) sound.chains_end) at within in
+    one_root slots at ((chains_end slots sound.parents_stand at within).0 (ap (chain_ends slots) (sym (at_zero at)) ∙ ends))
+
+-- the root of a slot of a system lies at the end of its chain of parents
+pub root_over_root : (slots : List Slot) (at : ℕ) → AreSlotsSound slots → at < length slots → IsRootOf slots at (root_over slots at)
+root_over_root slots at sound within = let root = rooted slots sound at within in root_of_chain slots at (root_over slots at) refl (root.0, root.1)
 
 named_within : (xs : List Slot) (at : ℕ) (name : Text) → option_map (λ (s : Slot). s.name) (slice_get xs at) ≡ Some name → at < length xs
 named_within [] at name h = absurd (cc)
 named_within (x ∷ xs) zero name h = omega arith
 named_within (x ∷ xs) (suc at) name h = let less = named_within xs at name h in omega (arith, less)
 
-first_rootless : (groups : List Group) (name : Text) → refusal_of groups ≡ Some (refusal.ParentCycle name) → IsFirstRootless (slots_of groups) name
+first_rootless : (groups : List Group) (name : Text) → first_refusal groups ≡ Some (refusal.ParentCycle name) → IsFirstRootless (slots_of groups) name
 unfolding parent_cycle
 first_rootless groups name h = (r.0, r.1, no_root, above)
   where
@@ -206,7 +206,7 @@ first_rootless groups name h = (r.0, r.1, no_root, above)
     slots = slots_of groups
 
     r : FirstEndless slots slots 0 name
-    r = first_endless slots slots 0 name (cycle_row groups name h)
+    r = first_endless slots slots 0 name (first_cycle groups name h)
 
     within : r.0 < length slots
     within = named_within slots r.0 name r.1
@@ -223,6 +223,6 @@ refused_by None c why h = absurd (cc)
 
 pub roots_told : (groups : List Group) (r : Result System (Lack ConfRefusal)) → Reads (system_of groups) r → RootsTold (slots_of groups) r
 unfolding RootsTold
-roots_told groups (Ok system) h = rooted system.boot system.mount_prefix system.status_file system.data_directory system.slots system.parents_stand system.unrefused
-roots_told groups (Err (lack.Refused (refusal.ParentCycle name))) h = first_rootless groups name (refused_by (refusal_of groups) (configuration groups) (refusal.ParentCycle name) h)
+roots_told groups (Ok system) h = rooted system.slots system.sound.slots
+roots_told groups (Err (lack.Refused (refusal.ParentCycle name))) h = first_rootless groups name (refused_by (first_refusal groups) (configuration groups) (refusal.ParentCycle name) h)
 roots_told groups (Err _) h = tt

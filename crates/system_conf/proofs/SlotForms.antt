@@ -6,10 +6,11 @@ use Rattle.std.proofs.lemmas.Bool.{and_parts, true≢false}
 use Rattle.std.proofs.lemmas.Fmt.{decimal-digits_value}
 use Rattle.std.proofs.lemmas.List.Sums.{split_at_first, passes_at_first}
 use Rattle.std.proofs.lemmas.Str.Parse.{IsNumeralModel, IsDigitsTest, FoldsDigits, numerals_by_fold}
-use Rattle.updater_text.specs.Numbers.{is_digit, value_of, number_of}
+use Rattle.updater_text.specs.Numbers.{is_digit, digits_value, number_of}
 use Rattle.keyfile.specs.Groups.{Text}
-use Rattle.conf_forms.specs.Lists.{passing}
-use Rattle.conf_forms.specs.SlotNames.{index_in, name_of, class_of, index_of, is_class, is_slot_group}
+use Rattle.conf_forms.specs.Lists.{keep_if}
+use Rattle.conf_forms.specs.Classes.{is_class}
+use Rattle.conf_forms.specs.SlotNames.{index_in, name_of, class_of, index_of, is_slot_group}
 
 -- ---- decimal digits
 
@@ -36,9 +37,9 @@ chosen : {A : Type 0} (b : Bool) (o : Option A) (y : A) → cond b o None ≡ So
 chosen true o y h = (refl, h)
 chosen false o y h = absurd (cc)
 
-pub passing_is : {A : Type 0} (test : A → Bool) (o : Option A) (y : A) → passing test o ≡ Some y → (o ≡ Some y) × (test y ≡ true)
-passing_is test None y h = absurd (cc)
-passing_is test (Some x) y h = let is = if_some (test x) x y h in (ap (λ z. Some z) is.1, ap test (sym is.1) ∙ is.0)
+pub keep_if_is : {A : Type 0} (test : A → Bool) (o : Option A) (y : A) → keep_if test o ≡ Some y → (o ≡ Some y) × (test y ≡ true)
+keep_if_is test None y h = absurd (cc)
+keep_if_is test (Some x) y h = let is = if_some (test x) x y h in (ap (λ z. Some z) is.1, ap test (sym is.1) ∙ is.0)
 
 one_digit : (text : List ℕ) → ((eqb (length text) 1) || not (eqb (get_or text 0 0) 48)) ≡ true → get_or text 0 0 ≡ 48 → length text ≡ 1
 one_digit text h zero_first = go (eqb (length text) 1) refl h
@@ -49,13 +50,13 @@ one_digit text h zero_first = go (eqb (length text) 1) refl h
 
 index_is : (text : List ℕ) (n : ℕ) → index_in text ≡ Some n → (decimal n ≡ text) × (nat_lt n (2 ^ 32) ≡ true) × (1 ≤ length text)
 index_is text n h =
-    let read = chosen ((eqb (length text) 1) || not (eqb (get_or text 0 0) 48)) (passing (λ k. nat_lt k (2 ^ 32)) (number_of text)) n h in
-    let small = passing_is (λ k. nat_lt k (2 ^ 32)) (number_of text) n read.1 in
-    let number = if_some ((nat_le 1 (length text) && nat_le (length text) 20) && (list_all is_digit text && nat_lt (value_of text) (2 ^ 64))) (value_of text) n small.0 in
-    let both = and_parts (nat_le 1 (length text) && nat_le (length text) 20) (list_all is_digit text && nat_lt (value_of text) (2 ^ 64)) number.0 in
+    let read = chosen ((eqb (length text) 1) || not (eqb (get_or text 0 0) 48)) (keep_if (λ k. nat_lt k (2 ^ 32)) (number_of text)) n h in
+    let small = keep_if_is (λ k. nat_lt k (2 ^ 32)) (number_of text) n read.1 in
+    let number = if_some ((nat_le 1 (length text) && nat_le (length text) 20) && (list_all is_digit text && nat_lt (digits_value text) (2 ^ 64))) (digits_value text) n small.0 in
+    let both = and_parts (nat_le 1 (length text) && nat_le (length text) 20) (list_all is_digit text && nat_lt (digits_value text) (2 ^ 64)) number.0 in
     let some = leb-true 1 (length text) (and_parts (nat_le 1 (length text)) (nat_le (length text) 20) both.0).0 in
-    let digits = and_parts (list_all is_digit text) (nat_lt (value_of text) (2 ^ 64)) both.1 in
-    let written : decimal (value_of text) ≡ text = decimal-digits_value numerals text digits.0 (omega (arith, some)) (one_digit text read.0) (ltb-true (value_of text) (2 ^ 64) digits.1) in
+    let digits = and_parts (list_all is_digit text) (nat_lt (digits_value text) (2 ^ 64)) both.1 in
+    let written : decimal (digits_value text) ≡ text = decimal-digits_value numerals text digits.0 (omega (arith, some)) (one_digit text read.0) (ltb-true (digits_value text) (2 ^ 64) digits.1) in
     (ap decimal (sym number.1) ∙ written, small.1, some)
 
 -- ---- the name

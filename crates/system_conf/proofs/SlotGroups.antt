@@ -7,7 +7,7 @@ use Rattle.conf_forms.specs.SlotNames.{parts, slot_parts, slot_groups}
 use Rattle.conf_forms.proofs.SlotNames.{groups_read}
 use Rattle.system_conf.specs.declared.slot.Slot.{Slot}
 use Rattle.system_conf.specs.Slots.{slot_of, slots_of}
-use Rattle.system_conf.proofs.FirstOf.{first_of-map}
+use Rattle.conf_forms.proofs.FirstOf.{first_of-map}
 
 -- the first answer along them
 pub first_of-groups : {B : Type 0} (f : Text → Option B) (groups : List Group) (slots : List SlotGroup) → map parts slots ≡ slot_parts groups → first_of (λ (s : SlotGroup). f s.group.now) slots ≡ first_of f (slot_groups groups)

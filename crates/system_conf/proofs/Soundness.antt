@@ -1,6 +1,6 @@
 -- What is read and not refused is sound.
-use Rattle.std.proofs.Common.{◌≡◌, ℕ, Bool, true, false, cond, ◌&&◌, nat_lt, List, [], ◌∷◌, length, map, Option, Some, None, codes, refl, sym, ◌∙◌, ap, subst}
-use Rattle.std.specs.Prelude.{is_none, option_and_then}
+use Rattle.std.proofs.Common.{◌≡◌, ℕ, Bool, true, false, cond, ◌&&◌, nat_lt, List, [], ◌∷◌, length, map, Option, Some, None, codes, refl, sym, ◌∙◌, subst}
+use Rattle.std.specs.Prelude.{option_and_then}
 use Rattle.std.specs.Option.{option_map_or}
 use Rattle.std.specs.List.{list_all, position_or_len}
 use Rattle.std.specs.Str.{bytes_eq}
@@ -8,12 +8,11 @@ use Rattle.std.proofs.lemmas.List.{length-map}
 use Rattle.boot_model.specs.declared.boot_kind.BootKind.{BootKind}
 use Rattle.boot_model.specs.declared.boot_kind.BootKind.TheVariants as boot
 use Rattle.keyfile.specs.Groups.{Text, Group, get_in}
-use Rattle.conf_forms.specs.Lists.{or_else, first_of}
-use Rattle.system_conf.specs.Values.{boot_of, boot_file, grub_file_of, grubenv_of, loader_of, attempts_in, flag_in, custom_program_of, mount_prefix_of, status_file_of, data_directory_of}
+use Rattle.conf_forms.specs.Lists.{or_else}
+use Rattle.system_conf.specs.Values.{boot_of, boot_file, grub_file_of, grubenv_of, loader_of, attempts_in, flag_in, custom_program_of}
 use Rattle.conf_forms.specs.SlotNames.{slot_groups, slot_names, name_of}
 use Rattle.system_conf.specs.Slots.{slot_called, slots_of, slot_of}
-use Rattle.system_conf.specs.Refusals.{slot_rows, first_row, device_is_file, kept_device, kept_of, boot_kept, Kept, too_many, same_device, same_bootname, no_parent, parent_cycle, child_boot_name}
-use Rattle.system_conf.specs.Sound.{parents_stand, are_unrefused}
+use Rattle.system_conf.specs.Sound.{parents_stand}
 use Rattle.system_conf.specs.declared.slot.Slot.{Slot}
 
 pub left_none : {A : Type 0} (a b : Option A) → None ≡ or_else a b → a ≡ None
@@ -46,28 +45,6 @@ boot_file-boot_of groups =
     go false false false true t = refl
     go false false false false true = refl
     go false false false false false = refl
-
-kept_same : (groups : List Group) → kept_of groups ≡ boot_kept (boot_of groups) (mount_prefix_of groups) (status_file_of groups) (data_directory_of groups)
-kept_same groups = λ i. record { status_file = status_file_of groups; grub_file = sym (boot_file-boot_of groups) i; data_directory = data_directory_of groups; mount_prefix = mount_prefix_of groups }
-
-pub unrefused : (groups : List Group) (slots : List Slot) → None ≡ first_row (slot_rows groups slots)
-    → are_unrefused (boot_of groups) (mount_prefix_of groups) (status_file_of groups) (data_directory_of groups) slots ≡ true
-unfolding device_is_file
-unrefused groups slots h =
-    let h1 = right_none (too_many slots) _ h in
-    let h2 = right_none (same_device slots) _ h1 in
-    let h3 = right_none (same_bootname slots) _ h2 in
-    let h4 = right_none (no_parent groups) _ h3 in
-    let h5 = right_none (parent_cycle slots) _ h4 in
-    let h6 = right_none (child_boot_name slots) _ h5 in
-    let e1 = left_none (too_many slots) _ h in
-    let e2 = left_none (same_device slots) _ h1 in
-    let e3 = left_none (same_bootname slots) _ h2 in
-    let e5 = left_none (parent_cycle slots) _ h4 in
-    let e6 = left_none (child_boot_name slots) _ h5 in
-    let e7 : first_of (kept_device (boot_kept (boot_of groups) (mount_prefix_of groups) (status_file_of groups) (data_directory_of groups))) slots ≡ None =
-    ap (λ (kept : Kept). first_of (kept_device kept) slots) (sym (kept_same groups)) ∙ left_none (first_of (kept_device (kept_of groups)) slots) _ h6 in
-    λ i. is_none (or_else (e1 i) (or_else (e2 i) (or_else (e3 i) (or_else (e5 i) (or_else (e6 i) (or_else (e7 i) None))))))
 
 -- each parent is the place of a slot
 found_within : (b : Bool) (k : ℕ) (n : ℕ) → nat_lt k n ≡ b → option_map_or (λ p. nat_lt p n) (cond b (Some k) None) true ≡ true

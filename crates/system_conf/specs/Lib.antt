@@ -1,8 +1,15 @@
+pub mod Causes
+pub mod Configuration
+pub mod Conflicts
+pub mod Duplicates
 pub mod Formed
+pub mod KeyTable
+pub mod Mandatory
+pub mod OwnFiles
 pub mod Parents
-pub mod Places
 pub mod Reads
 pub mod Refusals
+pub mod Settings
 pub mod Slots
 pub mod Sound
 pub mod Values

@@ -1,10 +1,11 @@
 -- The slots of a configuration.
-use Rattle.std.specs.Prelude.{ℕ, Bool, false, true, List, [], codes, length, map, zero, suc, slice_get, position, Option, Some, is_none, option_and_then, unwrap_or, if◌then◌else◌}
+use Rattle.std.specs.Prelude.{ℕ, Bool, false, true, List, [], codes, length, map, zero, suc, slice_get, position, Option, is_none, option_and_then, unwrap_or, if◌then◌else◌}
+use Rattle.std.specs.Option.{option_map_or}
 use Rattle.std.specs.Str.{bytes_eq}
 use Rattle.keyfile.specs.Groups.{Text, Group, get_in}
 use Rattle.conf_forms.specs.SlotNames.{name_of, class_of, index_of, index_in, slot_groups, slot_names}
 use Rattle.conf_forms.specs.declared.form.Form.TheVariants as form
-use Rattle.system_conf.specs.Values.{value_of, flag_in}
+use Rattle.system_conf.specs.Values.{value_with_form, flag_in}
 use Rattle.system_conf.specs.declared.slot.Slot.{Slot}
 use Rattle.system_conf.specs.declared.slot.SlotKind.{SlotKind}
 use Rattle.system_conf.specs.declared.slot.SlotKind.TheVariants as slot
@@ -30,11 +31,11 @@ slot_called groups name = position (λ n. bytes_eq n name) (slot_names groups)
 
 -- the device of a slot
 abbrev pub device_of : List Group → Text → Text
-device_of groups group = unwrap_or (value_of groups form.Path group (codes "device")) []
+device_of groups group = unwrap_or (value_with_form groups form.Path group (codes "device")) []
 
 -- the type of a slot
 abbrev pub type_of : List Group → Text → SlotKind
-type_of groups group = kind_with (unwrap_or (value_of groups form.SlotType group (codes "type")) (codes "raw"))
+type_of groups group = kind_with (unwrap_or (value_with_form groups form.SlotType group (codes "type")) (codes "raw"))
 
 -- the place of a slot's parent
 abbrev pub parent_of : List Group → Text → Option ℕ
@@ -48,7 +49,7 @@ slot_of groups group = record {
   index = unwrap_or (index_in (index_of group)) 0;
   device = device_of groups group;
   kind = type_of groups group;
-  bootname = value_of groups form.BootName group (codes "bootname");
+  bootname = value_with_form groups form.BootName group (codes "bootname");
   parent = parent_of groups group;
   allow_mounted = flag_in groups group (codes "allow-mounted") false;
   readonly = flag_in groups group (codes "readonly") false;
@@ -63,11 +64,15 @@ slots_of groups = map (slot_of groups) (slot_groups groups)
 abbrev pub parent_at : List Slot → ℕ → Option ℕ
 parent_at slots at = option_and_then (λ s. s.parent) (slice_get slots at)
 
--- the slot so many steps up the chain of parents, where the chain is that long
-abbrev pub ancestor : List Slot → ℕ → ℕ → Option ℕ
-ancestor slots zero at = Some at
-ancestor slots (suc steps) at = option_and_then (ancestor slots steps) (parent_at slots at)
+-- the slot so many steps up the chain of parents, or where the chain ends before
+abbrev pub climb : List Slot → ℕ → ℕ → ℕ
+climb slots zero at = at
+climb slots (suc steps) at = option_map_or (climb slots steps) (parent_at slots at) at
 
--- the chain of parents ends: as many steps as there are slots lead past its end
+-- the root over the slot at a place: where its chain of parents ends, which takes fewer steps than there are slots
+abbrev pub root_over : List Slot → ℕ → ℕ
+root_over slots at = climb slots (length slots) at
+
+-- the chain of parents ends: what lies at its end has no parent
 abbrev pub chain_ends : List Slot → ℕ → Bool
-chain_ends slots at = is_none (ancestor slots (length slots) at)
+chain_ends slots at = is_none (parent_at slots (root_over slots at))

@@ -1,21 +1,21 @@
 -- The values of a configuration, with their defaults. A value that does not have its form counts as one that is not there.
-use Rattle.std.specs.Prelude.{ℕ, ◌==◌, Bool, true, false, ◌&&◌, ◌||◌, List, [], ◌++◌, codes, nat_eq, length, slice_index, Option, Some, None, option_map, option_and_then, unwrap_or, if◌then◌else◌}
+use Rattle.std.specs.Prelude.{ℕ, Bool, true, false, List, [], ◌++◌, codes, Option, Some, None, option_map, option_and_then, unwrap_or, if◌then◌else◌}
 use Rattle.std.specs.Option.{option_map_or}
-use Rattle.std.specs.List.{starts_with}
+use Rattle.updater_text.specs.Paths.{lies_under}
 use Rattle.std.specs.Str.{bytes_eq}
 use Rattle.updater_text.specs.Flags.{flag_of}
 use Rattle.boot_model.specs.declared.boot_kind.BootKind.{BootKind}
 use Rattle.boot_model.specs.declared.boot_kind.BootKind.TheVariants as boot
 use Rattle.keyfile.specs.Groups.{Text, Group, get_in}
-use Rattle.conf_forms.specs.Lists.{or_else, passing}
-use Rattle.conf_forms.specs.Forms.{fits, attempts_of, without_slash}
+use Rattle.conf_forms.specs.Lists.{or_else, keep_if}
+use Rattle.conf_forms.specs.Forms.{accepts, attempts_of, without_slash}
 use Rattle.conf_forms.specs.declared.form.Form.{Form}
 use Rattle.conf_forms.specs.declared.form.Form.TheVariants as form
 use Rattle.system_conf.specs.declared.system.Helpers.{Helpers}
 
 -- the value of a key whose values have this form
-abbrev pub value_of : List Group → Form → Text → Text → Option Text
-value_of groups form group key = passing (fits form) (get_in groups group key)
+abbrev pub value_with_form : List Group → Form → Text → Text → Option Text
+value_with_form groups form group key = keep_if (accepts form) (get_in groups group key)
 
 -- the flag at a key
 abbrev pub flag_in : List Group → Text → Text → Bool → Bool
@@ -34,14 +34,14 @@ abbrev pub compatible_of : List Group → Text
 compatible_of groups = unwrap_or (get_in groups (codes "system") (codes "compatible")) []
 
 abbrev pub mount_prefix_of : List Group → Text
-mount_prefix_of groups = without_slash (unwrap_or (value_of groups form.Directory (codes "system") (codes "mountprefix")) (codes "/mnt/rauc/"))
+mount_prefix_of groups = without_slash (unwrap_or (value_with_form groups form.Directory (codes "system") (codes "mountprefix")) (codes "/mnt/rauc/"))
 
 abbrev pub data_directory_of : List Group → Option Text
-data_directory_of groups = option_map without_slash (value_of groups form.Directory (codes "system") (codes "data-directory"))
+data_directory_of groups = option_map without_slash (value_with_form groups form.Directory (codes "system") (codes "data-directory"))
 
 -- GRUB's environment block
 abbrev pub grubenv_of : List Group → Text
-grubenv_of groups = unwrap_or (value_of groups form.Path (codes "system") (codes "grubenv")) (codes "/boot/grub/grubenv")
+grubenv_of groups = unwrap_or (value_with_form groups form.Path (codes "system") (codes "grubenv")) (codes "/boot/grub/grubenv")
 
 -- GRUB's environment block, where GRUB is the boot loader
 abbrev pub grub_file_of : List Group → Option Text
@@ -53,15 +53,15 @@ central_file directory = directory ++ codes "/central.raucs"
 
 -- the status file: the one that is named, else the one in the data directory
 abbrev pub status_file_of : List Group → Option Text
-status_file_of groups = or_else (value_of groups form.StatusFile (codes "system") (codes "statusfile")) (option_map central_file (data_directory_of groups))
+status_file_of groups = or_else (value_with_form groups form.StatusFile (codes "system") (codes "statusfile")) (option_map central_file (data_directory_of groups))
 
 -- the program of `[handlers]` at a key
 abbrev pub handler_of : List Group → Text → Option Text
-handler_of groups key = value_of groups form.Path (codes "handlers") key
+handler_of groups key = value_with_form groups form.Path (codes "handlers") key
 
 -- the program of `[x-helpers]` at a key
 abbrev pub helper_of : List Group → Text → Text
-helper_of groups key = unwrap_or (value_of groups form.Path (codes "x-helpers") key) (codes "/usr/libexec/rauc/" ++ key)
+helper_of groups key = unwrap_or (value_with_form groups form.Path (codes "x-helpers") key) (codes "/usr/libexec/rauc/" ++ key)
 
 abbrev pub helpers_of : List Group → Helpers
 helpers_of groups = record { check = helper_of groups (codes "bundle-check"); mount = helper_of groups (codes "bundle-mount"); umount = helper_of groups (codes "bundle-umount") }
@@ -87,14 +87,6 @@ boot_of groups = boot_named groups (loader_of groups)
 abbrev pub boot_file : BootKind → Option Text
 boot_file (boot.Grub file) = Some file
 boot_file _ = None
-
--- the path lies below the directory: it begins with it, and a slash follows
-abbrev pub lies_under : Text → Text → Bool
-lies_under directory path = starts_with nat_eq path directory && (slice_index path (length directory) == 47)
-
--- the path is the directory, or lies below it
-abbrev pub is_within : Text → Text → Bool
-is_within directory path = bytes_eq path directory || lies_under directory path
 
 -- the path is this place, where there is such a place
 abbrev pub is_at : Option Text → Text → Bool

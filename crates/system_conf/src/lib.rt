@@ -1,23 +1,30 @@
 //! The configuration of a system: its slots, its boot loader, and where the updater keeps its files.
 #![tactic(auto)]
 
+mod cause;
 mod conf_refusal;
-mod kept;
-mod missing;
+mod conflicts;
+mod duplicates;
+mod key_table;
+mod keys;
+mod mandatory;
+mod own_files;
 mod parents;
-mod places;
 mod read_slots;
+mod reader;
 mod reading;
-mod shared;
+mod roots;
+mod settings;
 mod slot;
-mod slot_rows;
+mod slot_limit;
+mod slot_names;
 mod system;
-mod taken;
-#[cfg(test)]
-mod tests;
 mod values;
 
+pub use cause::conf_cause;
 pub use conf_refusal::ConfRefusal;
+use reader::Reader;
 pub use reading::read_system;
+pub use roots::root_of;
 pub use slot::{Slot, SlotKind};
 pub use system::{Helpers, System};

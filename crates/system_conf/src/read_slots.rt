@@ -1,50 +1,49 @@
-ghost use Rattle.std.specs.Prelude.{◌≡◌, IfOk, map, position};
+ghost use Rattle.std.specs.Prelude.{◌≡◌, IfOk, position};
 ghost use Rattle.std.specs.Str.{bytes_eq};
-ghost use Rattle.conf_forms.specs.SlotNames.{parts, parts_of, slot_parts};
+ghost use Rattle.conf_forms.specs.SlotNames.{parts, parts_of};
 ghost use Rattle.system_conf.specs.Slots as spec;
 
-use crate::values::{flag_in, owned, value_of};
-use crate::{Slot, SlotKind};
+use crate::values::{flag_in, text_if_any, value_with_form};
+use crate::{Reader, Slot, SlotKind};
 use conf_forms::{Form, SlotGroup};
 use keyfile::KeyFile;
 use std::alloc::Global;
 use updater_text::{Items, NoMemory, Text};
 
-/// The slots of these groups.
-pub fn read_slots(
-    alloc: Global,
-    file: &KeyFile,
-    groups: &[SlotGroup<'_>],
-) -> Result<Items<Slot>, NoMemory>
-    requires { map parts groups.now ≡ slot_parts file.now }
-    ensures { IfOk result (λ slots. slots ≡ spec.slots_of file.now) }
+/// The slots of a configuration.
+pub fn read_slots(reader: &Reader<'_>) -> Result<Items<Slot>, NoMemory>
+    ensures { IfOk result (λ slots. slots ≡ spec.slots_of reader.now.file.now) }
 {
-    let mut slots = Items::new(alloc);
-    for group in groups {
-        slots.push(read_slot(alloc, file, groups, group)?)?;
+    let mut slots = Items::new(reader.alloc);
+    for group in reader.slots {
+        slots.push(read_slot(reader, group)?)?;
     }
     Ok(slots)
 }
 
-fn read_slot(
-    alloc: Global,
-    file: &KeyFile,
-    groups: &[SlotGroup<'_>],
-    slot: &SlotGroup<'_>,
-) -> Result<Slot, NoMemory>
-    requires groups { map parts groups.now ≡ slot_parts file.now }
-    requires slot { parts slot.now ≡ parts_of slot.now.group.now }
-    ensures { IfOk result (λ read. read ≡ spec.slot_of file.now slot.now.group.now) }
+fn read_slot(reader: &Reader<'_>, slot: &SlotGroup<'_>) -> Result<Slot, NoMemory>
+    requires { parts slot.now ≡ parts_of slot.now.group.now }
+    ensures { IfOk result (λ read. read ≡ spec.slot_of reader.now.file.now slot.now.group.now) }
 {
+    let alloc = reader.alloc;
+    let file = reader.file;
     let group = slot.group;
+    let name = Text::new(alloc, slot.name)?;
+    let class = Text::new(alloc, slot.class)?;
+    let device = device_of(alloc, file, group)?;
+    let bootname = text_if_any(
+        alloc,
+        value_with_form(file, Form::BootName, group, "bootname"),
+    )?;
+    let kind = slot_kind(alloc, file, group)?;
     Ok(Slot {
-        name: Text::new(alloc, slot.name)?,
-        class: Text::new(alloc, slot.class)?,
+        name,
+        class,
         index: slot.index,
-        device: device_of(alloc, file, group)?,
-        kind: kind_of(alloc, file, group)?,
-        bootname: owned(alloc, value_of(file, Form::BootName, group, "bootname"))?,
-        parent: parent_of(file, groups, group),
+        device,
+        kind,
+        bootname,
+        parent: parent_of(reader, group),
         allow_mounted: flag_in(file, group, "allow-mounted", false),
         readonly: flag_in(file, group, "readonly", false),
         install_same: flag_in(file, group, "install-same", true),
@@ -56,14 +55,14 @@ fn device_of(alloc: Global, file: &KeyFile, group: &str) -> Result<Text, NoMemor
 {
     Text::new(
         alloc,
-        value_of(file, Form::Path, group, "device").unwrap_or(""),
+        value_with_form(file, Form::Path, group, "device").unwrap_or(""),
     )
 }
 
-fn kind_of(alloc: Global, file: &KeyFile, group: &str) -> Result<SlotKind, NoMemory>
+fn slot_kind(alloc: Global, file: &KeyFile, group: &str) -> Result<SlotKind, NoMemory>
     ensures { IfOk result (λ kind. kind ≡ spec.type_of file.now group.now) }
 {
-    match value_of(file, Form::SlotType, group, "type").unwrap_or("raw") {
+    match value_with_form(file, Form::SlotType, group, "type").unwrap_or("raw") {
         "raw" => Ok(SlotKind::Raw),
         "ext4" => Ok(SlotKind::Ext4),
         "vfat" => Ok(SlotKind::Vfat),
@@ -71,12 +70,11 @@ fn kind_of(alloc: Global, file: &KeyFile, group: &str) -> Result<SlotKind, NoMem
     }
 }
 
-fn parent_of(file: &KeyFile, groups: &[SlotGroup<'_>], group: &str) -> Option<usize>
-    requires { map parts groups.now ≡ slot_parts file.now }
-    ensures { result ≡ spec.parent_of file.now group.now }
+fn parent_of(reader: &Reader<'_>, group: &str) -> Option<usize>
+    ensures { result ≡ spec.parent_of reader.now.file.now group.now }
 {
-    match file.get(group, "parent") {
-        Some(name) => slot_called(groups, name),
+    match reader.file.get(group, "parent") {
+        Some(name) => slot_called(reader.slots, name),
         None => None,
     }
 }

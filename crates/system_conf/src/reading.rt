@@ -1,28 +1,26 @@
 ghost use Rattle.std.specs.Prelude.{◌≡◌, None, IfOk, map};
 ghost use Rattle.std.specs.List.{IsDistinct};
 ghost use Rattle.std.specs.Str.{bytes_eq};
-ghost use Rattle.conf_forms.specs.SlotNames.{parts, slot_parts};
+ghost use Rattle.system_conf.specs.Configuration.{configuration};
 ghost use Rattle.system_conf.specs.Slots.{slots_of};
-ghost use Rattle.system_conf.specs.Reads.{Reads, shown};
+ghost use Rattle.system_conf.specs.Reads.{Checks, Reads, system_configuration};
 ghost use Rattle.system_conf.specs.Parents.{ChainsEndAtRoots, RootsTold};
 ghost use Rattle.system_conf.specs.Refusals as spec;
+ghost use Rattle.system_conf.specs.Settings.{settings_of};
 
-use crate::kept::{device_is_file, too_many};
-use crate::missing::missing;
+use crate::duplicates::{same_bootname, same_device};
+use crate::keys::{bad_value, left_out, missing, unknown_key};
+use crate::own_files::device_is_file;
 use crate::parents::{child_boot_name, no_parent, parent_cycle};
-use crate::places::{bad_value, left_out, unknown_key};
 use crate::read_slots::read_slots;
-use crate::shared::{same_bootname, same_device};
-use crate::slot_rows::bad_slot_name;
-use crate::values::{
-    boot_of, compatible_of, data_directory_of, handler_of, helpers_of, mount_prefix_of, owned,
-    status_file_of,
-};
-use crate::{ConfRefusal, Slot, System};
-use conf_forms::{SlotGroup, slot_groups};
+use crate::settings::{Settings, read_settings};
+use crate::slot_limit::too_many;
+use crate::slot_names::bad_slot_name;
+use crate::{ConfRefusal, Reader, Slot, System};
+use conf_forms::slot_groups;
 use keyfile::KeyFile;
 use std::alloc::Global;
-use updater_text::{Items, Lack, NoMemory, Text};
+use updater_text::{Items, Lack, NoMemory};
 
 /// Reads a configuration, as RAUC's chapter Reference describes `system.conf`, or refuses it with the
 /// first refusal that holds, in the order of `ConfRefusal`. `ParentCycle` names the first slot that
@@ -34,95 +32,118 @@ pub fn read_system(alloc: Global, file: &KeyFile) -> Result<System, Lack<ConfRef
     ensures roots { RootsTold (slots_of file.now) result }
 {
     let groups = slot_groups(alloc, file)?;
-    if let Some(why) = group_refusal(alloc, file, groups.as_slice())? {
-        return Err(Lack::Refused(why));
+    let reader = Reader {
+        alloc,
+        file,
+        slots: groups.as_slice(),
+    };
+    read_whole(&reader)
+}
+
+// Reads a configuration, or refuses it.
+fn read_whole(reader: &Reader<'_>) -> Result<System, Lack<ConfRefusal>>
+    requires { IsDistinct bytes_eq (map (λ g. g.0) reader.now.file.now) }
+    ensures { Reads (spec.system_of reader.now.file.now) result }
+{
+    check_groups(reader)?;
+    let slots = read_slots(reader)?;
+    check_slots(reader, slots.as_slice())?;
+    match read_settings(reader.alloc, reader.file) {
+        Ok(settings) => Ok(system_with(reader, settings, slots)),
+        Err(_) => Err(Lack::NoMemory),
     }
-    let slots = read_slots(alloc, file, groups.as_slice())?;
-    if let Some(why) = slot_refusal(alloc, file, groups.as_slice(), slots.as_slice())? {
-        return Err(Lack::Refused(why));
+}
+
+// Refuses a configuration by its groups.
+fn check_groups(reader: &Reader<'_>) -> Result<(), Lack<ConfRefusal>>
+    ensures { Checks (spec.first_some (spec.group_refusals reader.now.file.now)) result }
+{
+    match group_refusal(reader) {
+        Ok(None) => Ok(()),
+        Ok(Some(why)) => Err(Lack::Refused(why)),
+        Err(_) => Err(Lack::NoMemory),
     }
-    Ok(configured(alloc, file, slots)?)
+}
+
+// Refuses a configuration by its slots.
+fn check_slots(reader: &Reader<'_>, slots: &[Slot]) -> Result<(), Lack<ConfRefusal>>
+    ensures { Checks (spec.first_some (spec.slot_refusals reader.now.file.now slots.now)) result }
+{
+    match slot_refusal(reader, slots) {
+        Ok(None) => Ok(()),
+        Ok(Some(why)) => Err(Lack::Refused(why)),
+        Err(_) => Err(Lack::NoMemory),
+    }
 }
 
 // The first refusal by the groups.
-fn group_refusal(
-    alloc: Global,
-    file: &KeyFile,
-    groups: &[SlotGroup<'_>],
-) -> Result<Option<ConfRefusal>, NoMemory>
-    requires { map parts groups.now ≡ slot_parts file.now }
-    ensures { IfOk result (λ row. row ≡ spec.first_row (spec.group_rows file.now)) }
+fn group_refusal(reader: &Reader<'_>) -> Result<Option<ConfRefusal>, NoMemory>
+    ensures { IfOk result (λ refusal. refusal ≡ spec.first_some (spec.group_refusals reader.now.file.now)) }
 {
-    if let Some(why) = missing(alloc, file, groups)? {
+    if let Some(why) = missing(reader)? {
         return Ok(Some(why));
     }
-    if let Some(why) = unknown_key(alloc, file, groups)? {
+    if let Some(why) = unknown_key(reader)? {
         return Ok(Some(why));
     }
-    if let Some(why) = left_out(alloc, file, groups)? {
+    if let Some(why) = left_out(reader)? {
         return Ok(Some(why));
     }
-    if let Some(why) = bad_value(alloc, file, groups)? {
+    if let Some(why) = bad_value(reader)? {
         return Ok(Some(why));
     }
-    if let Some(why) = bad_slot_name(alloc, file)? {
-        return Ok(Some(why));
-    }
-    Ok(None)
+    bad_slot_name(reader.alloc, reader.file)
 }
 
 // The first refusal by the slots.
-fn slot_refusal(
-    alloc: Global,
-    file: &KeyFile,
-    groups: &[SlotGroup<'_>],
-    slots: &[Slot],
-) -> Result<Option<ConfRefusal>, NoMemory>
-    requires { map parts groups.now ≡ slot_parts file.now }
-    ensures { IfOk result (λ row. row ≡ spec.first_row (spec.slot_rows file.now slots.now)) }
+fn slot_refusal(reader: &Reader<'_>, slots: &[Slot]) -> Result<Option<ConfRefusal>, NoMemory>
+    ensures { IfOk result (λ refusal. refusal ≡ spec.first_some (spec.slot_refusals reader.now.file.now slots.now)) }
 {
     if let Some(why) = too_many(slots) {
         return Ok(Some(why));
     }
-    if let Some(why) = same_device(alloc, slots)? {
+    if let Some(why) = same_device(reader.alloc, slots)? {
         return Ok(Some(why));
     }
-    if let Some(why) = same_bootname(alloc, slots)? {
+    if let Some(why) = same_bootname(reader.alloc, slots)? {
         return Ok(Some(why));
     }
-    if let Some(why) = no_parent(alloc, file, groups)? {
+    if let Some(why) = no_parent(reader)? {
         return Ok(Some(why));
     }
-    if let Some(why) = parent_cycle(alloc, slots)? {
+    if let Some(why) = parent_cycle(reader.alloc, slots)? {
         return Ok(Some(why));
     }
-    if let Some(why) = child_boot_name(alloc, slots)? {
+    if let Some(why) = child_boot_name(reader.alloc, slots)? {
         return Ok(Some(why));
     }
-    if let Some(why) = device_is_file(alloc, file, slots)? {
-        return Ok(Some(why));
-    }
-    Ok(None)
+    device_is_file(reader, slots)
 }
 
-// The configuration, with its defaults.
-#[tactic(auto, unfolding(crate::specs::Refusals::configuration))]
-fn configured(alloc: Global, file: &KeyFile, slots: Items<Slot>) -> Result<System, NoMemory>
-    requires differ { IsDistinct bytes_eq (map (λ g. g.0) file.now) }
-    requires read { slots ≡ slots_of file.now }
-    requires unrefused { None ≡ spec.first_row (spec.slot_rows file.now slots) }
-    requires formed { None ≡ spec.first_row (spec.group_rows file.now) }
-    ensures { IfOk result (λ system. shown system ≡ spec.configuration file.now) }
+// The system of a configuration that is not refused.
+fn system_with(reader: &Reader<'_>, settings: Settings, slots: Items<Slot>) -> System
+    requires differ { IsDistinct bytes_eq (map (λ g. g.0) reader.now.file.now) }
+    requires settings { settings ≡ settings_of reader.now.file.now }
+    requires slots { slots ≡ slots_of reader.now.file.now }
+    requires groups_pass { spec.first_some (spec.group_refusals reader.now.file.now) ≡ None }
+    requires slots_pass { spec.first_some (spec.slot_refusals reader.now.file.now slots) ≡ None }
+    ensures { system_configuration result ≡ configuration reader.now.file.now }
 {
-    Ok(System {
-        compatible: Text::new(alloc, compatible_of(file))?,
-        boot: boot_of(alloc, file)?,
-        mount_prefix: Text::new(alloc, mount_prefix_of(file))?,
-        status_file: status_file_of(alloc, file)?,
-        data_directory: owned(alloc, data_directory_of(file))?,
-        pre_install: owned(alloc, handler_of(file, "pre-install"))?,
-        post_install: owned(alloc, handler_of(file, "post-install"))?,
-        helpers: helpers_of(alloc, file)?,
+    let Settings {
+        compatible,
+        boot,
+        paths,
+        programs,
+    } = settings;
+    System {
+        compatible,
+        boot,
+        mount_prefix: paths.mount_prefix,
+        status_file: paths.status_file,
+        data_directory: paths.data_directory,
+        pre_install: programs.pre_install,
+        post_install: programs.post_install,
+        helpers: programs.helpers,
         slots,
-    })
+    }
 }

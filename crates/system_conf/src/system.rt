@@ -1,9 +1,8 @@
-ghost use Rattle.std.specs.Prelude.{◌≡◌, ◌++◌, [], IfOk, IsTrue, OnOk, filter_map, map, position};
+ghost use Rattle.std.specs.Prelude.{◌≡◌, ◌++◌, [], IfOk, OnOk, filter_map, map, position};
 ghost use Rattle.std.proofs.Props.{props};
-ghost use Rattle.std.specs.List.{IsDistinct, cons_option, list_all};
+ghost use Rattle.std.specs.List.{cons_option};
 ghost use Rattle.std.specs.Str.{bytes_eq};
-ghost use Rattle.system_conf.specs.Formed.{are_apart, are_formed, are_helpers_formed, is_boot_formed, is_slot_formed};
-ghost use Rattle.system_conf.specs.Sound.{are_unrefused, parents_stand};
+ghost use Rattle.system_conf.specs.Sound.{IsSound};
 
 use crate::Slot;
 use boot_model::BootKind;
@@ -37,15 +36,7 @@ pub struct System {
     /// The slots, in file order.
     pub slots: Items<Slot>,
 
-    // What holds of every system.
-    pub ghost names_differ: { IsDistinct bytes_eq (map (λ s. s.name) slots) } by { Prim.hlevel props },
-    pub ghost parents_stand: { IsTrue (parents_stand slots) },
-    pub ghost unrefused: { IsTrue (are_unrefused boot mount_prefix status_file data_directory slots) },
-    pub ghost formed: { IsTrue (are_formed compatible mount_prefix status_file data_directory pre_install post_install) },
-    pub ghost boot_formed: { IsTrue (is_boot_formed boot) },
-    pub ghost helpers_formed: { IsTrue (are_helpers_formed helpers) },
-    pub ghost slots_formed: { IsTrue (list_all is_slot_formed slots) },
-    pub ghost apart: { IsTrue (are_apart boot mount_prefix status_file data_directory slots) },
+    pub ghost sound: { IsSound (record { compatible = compatible; boot = boot; mount_prefix = mount_prefix; status_file = status_file; data_directory = data_directory; pre_install = pre_install; post_install = post_install; helpers = helpers; slots = slots }) } by { Prim.hlevel props },
 }
 
 impl System {
@@ -55,6 +46,18 @@ impl System {
     {
         let slots = self.slots.as_slice();
         slots.iter().position(|slot| slot.name.as_str() == name)
+    }
+
+    /// The names of the slots, in their order.
+    pub fn slot_names(&self, alloc: Global) -> Result<Vec<Text>, NoMemory>
+        ensures { IfOk result (λ names. names.items ≡ map (λ s. s.name) self.now.slots) }
+    {
+        let mut names = Vec::new(alloc);
+        for slot in self.slots.as_slice() {
+            let name = slot.name.copy(alloc)?;
+            names.push(name)?;
+        }
+        Ok(names)
     }
 
     /// The bootnames of the slots that have one, in the order of the slots.

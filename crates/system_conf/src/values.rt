@@ -10,11 +10,11 @@ use updater_text::{NoMemory, Text, read_flag};
 
 /// The value of a key whose values have this form; None where there is none, or where it has
 /// another form.
-pub fn value_of<'a>(file: &'a KeyFile, form: Form, group: &str, key: &str) -> Option<&'a str>
-    ensures { option_copied result ≡ spec.value_of file.entry.now form group.now key.now }
+pub fn value_with_form<'a>(file: &'a KeyFile, form: Form, group: &str, key: &str) -> Option<&'a str>
+    ensures { option_copied result ≡ spec.value_with_form file.entry.now form group.now key.now }
 {
     match file.get(group, key) {
-        Some(value) if form.fits(value) => Some(value),
+        Some(value) if form.accepts(value) => Some(value),
         _ => None,
     }
 }
@@ -50,7 +50,7 @@ pub fn compatible_of(file: &KeyFile) -> &str
 pub fn mount_prefix_of(file: &KeyFile) -> &str
     ensures { result.now ≡ spec.mount_prefix_of file.entry.now }
 {
-    let given = value_of(file, Form::Directory, "system", "mountprefix");
+    let given = value_with_form(file, Form::Directory, "system", "mountprefix");
     without_slash(given.unwrap_or("/mnt/rauc/"))
 }
 
@@ -58,7 +58,7 @@ pub fn mount_prefix_of(file: &KeyFile) -> &str
 pub fn data_directory_of(file: &KeyFile) -> Option<&str>
     ensures { option_copied result ≡ spec.data_directory_of file.entry.now }
 {
-    match value_of(file, Form::Directory, "system", "data-directory") {
+    match value_with_form(file, Form::Directory, "system", "data-directory") {
         Some(directory) => Some(without_slash(directory)),
         None => None,
     }
@@ -68,7 +68,7 @@ pub fn data_directory_of(file: &KeyFile) -> Option<&str>
 pub fn grubenv_of(file: &KeyFile) -> &str
     ensures { result.now ≡ spec.grubenv_of file.entry.now }
 {
-    value_of(file, Form::Path, "system", "grubenv").unwrap_or("/boot/grub/grubenv")
+    value_with_form(file, Form::Path, "system", "grubenv").unwrap_or("/boot/grub/grubenv")
 }
 
 /// GRUB's environment block, where GRUB is the boot loader.
@@ -100,7 +100,7 @@ pub fn central_file(alloc: Global, directory: &str) -> Result<Text, NoMemory>
 pub fn status_file_of(alloc: Global, file: &KeyFile) -> Result<Option<Text>, NoMemory>
     ensures { IfOk result (λ path. path ≡ spec.status_file_of file.now) }
 {
-    if let Some(path) = value_of(file, Form::StatusFile, "system", "statusfile") {
+    if let Some(path) = value_with_form(file, Form::StatusFile, "system", "statusfile") {
         return Ok(Some(Text::new(alloc, path)?));
     }
     match data_directory_of(file) {
@@ -109,8 +109,8 @@ pub fn status_file_of(alloc: Global, file: &KeyFile) -> Result<Option<Text>, NoM
     }
 }
 
-/// The text owned, where there is one.
-pub fn owned(alloc: Global, text: Option<&str>) -> Result<Option<Text>, NoMemory>
+/// A copy of a text, where there is one.
+pub fn text_if_any(alloc: Global, text: Option<&str>) -> Result<Option<Text>, NoMemory>
     ensures { IfOk result (λ held. held ≡ option_copied text.entry) }
 {
     match text {
@@ -123,14 +123,14 @@ pub fn owned(alloc: Global, text: Option<&str>) -> Result<Option<Text>, NoMemory
 pub fn handler_of<'a>(file: &'a KeyFile, key: &str) -> Option<&'a str>
     ensures { option_copied result ≡ spec.handler_of file.entry.now key.now }
 {
-    value_of(file, Form::Path, "handlers", key)
+    value_with_form(file, Form::Path, "handlers", key)
 }
 
 // The program at a key of `[x-helpers]`, or else the one that is installed under this name.
 fn helper_of(alloc: Global, file: &KeyFile, key: &str) -> Result<Text, NoMemory>
     ensures { IfOk result (λ path. path ≡ spec.helper_of file.now key.now) }
 {
-    match value_of(file, Form::Path, "x-helpers", key) {
+    match value_with_form(file, Form::Path, "x-helpers", key) {
         Some(path) => Text::new(alloc, path),
         None => Ok(Text::from_string(format!(in alloc; "/usr/libexec/rauc/{key}")?)),
     }
@@ -140,10 +140,13 @@ fn helper_of(alloc: Global, file: &KeyFile, key: &str) -> Result<Text, NoMemory>
 pub fn helpers_of(alloc: Global, file: &KeyFile) -> Result<Helpers, NoMemory>
     ensures { IfOk result (λ helpers. helpers ≡ spec.helpers_of file.now) }
 {
+    let check = helper_of(alloc, file, "bundle-check")?;
+    let mount = helper_of(alloc, file, "bundle-mount")?;
+    let umount = helper_of(alloc, file, "bundle-umount")?;
     Ok(Helpers {
-        check: helper_of(alloc, file, "bundle-check")?,
-        mount: helper_of(alloc, file, "bundle-mount")?,
-        umount: helper_of(alloc, file, "bundle-umount")?,
+        check,
+        mount,
+        umount,
     })
 }
 
@@ -160,7 +163,7 @@ pub fn boot_of(alloc: Global, file: &KeyFile) -> Result<BootKind, NoMemory>
             primary_attempts: attempts_in(file, "boot-attempts-primary"),
         }),
         "barebox" => Ok(BootKind::Barebox {
-            state: owned(alloc, file.get("system", "barebox-statename"))?,
+            state: text_if_any(alloc, file.get("system", "barebox-statename"))?,
             attempts: attempts_in(file, "boot-attempts"),
             primary_attempts: attempts_in(file, "boot-attempts-primary"),
         }),

@@ -9,36 +9,36 @@ use Rattle.machine.specs.declared.world.Span.{Span}
 use Rattle.machine.specs.declared.world.Child.{Child}
 use Rattle.machine.specs.declared.world.Exit.{Exit}
 use Rattle.machine.specs.declared.world.World.{World}
-use Rattle.machine.specs.World.{bytes_under, disk, disk_length, replaced, written, Holds}
+use Rattle.machine.specs.World.{bytes_under, disk, disk_length, with_file, with_write, HoldsUpTo}
 use Rattle.machine.specs.Spares.{Spared, spans_of, spares_disk, spares_file}
-use Rattle.machine.specs.Past.{Run, Done, After}
+use Rattle.machine.specs.Past.{Run, Done, After, but_last}
 use Rattle.machine.proofs.Only.{bytes_of, disk-written_other, only_written}
 use Rattle.machine.proofs.Sparing.{bytes_under-filter, file-replaced_other, spared_refl, spared_trans}
 use Rattle.machine.proofs.Worlds.{bytes_eq_other}
 use Rattle.undo_log.specs.declared.effect.Effect.{Effect}
 use Rattle.undo_log.specs.declared.effect.Effect.TheVariants.{PutFile, DropFiles, WriteDisk}
 use Rattle.undo_log.specs.declared.notes.Change.TheVariants as change
-use Rattle.undo_log.specs.Effects.{all_effected, disk_touched, dropped, effected, file_put, holds, keeps, noted_run, touched}
-use Rattle.undo_log.specs.Undo.{but_last, undone}
+use Rattle.undo_log.specs.Effects.{after_effects, after_disk_write, without_files, after_effect, after_file_put, has_room, keeps_file, with_run, with_child_write}
+use Rattle.undo_log.specs.Undo.{world_before}
 use Rattle.undo_log.proofs.Noting.{but_last-push, put_back, room_again}
 
 -- a test that holds says so of the disk
-pub holds_is : (w : World) (path : List ℕ) (end : ℕ) → holds w path end ≡ true → Holds w path end
+pub holds_is : (w : World) (path : List ℕ) (end : ℕ) → has_room w path end ≡ true → HoldsUpTo w path end
 holds_is w path end h = of (disk_length w path) end h
   where
     of : (o : Option ℕ) (end : ℕ) → option_map_or (λ room. nat_le end room) o false ≡ true → (room : ℕ) × (o ≡ Some room) × (end ≤ room)
     of None end h = absurd (true≢false (sym h))
     of (Some room) end h = (room, refl, leb-true end room h)
 
-pub is_held : (w : World) (path : List ℕ) (end : ℕ) → Holds w path end → holds w path end ≡ true
+pub is_held : (w : World) (path : List ℕ) (end : ℕ) → HoldsUpTo w path end → has_room w path end ≡ true
 is_held w path end room = room_again w path end room.0 room.1 room.2
 
 -- the bytes of a disk that has room for a range
-pub room_bytes : (w : World) (ns : List Named) (path : List ℕ) (end : ℕ) → ns ≡ w.disks → holds w path end ≡ true → (bytes : List ℕ) × (bytes_under ns path ≡ Some bytes) × (end ≤ length bytes)
+pub room_bytes : (w : World) (ns : List Named) (path : List ℕ) (end : ℕ) → ns ≡ w.disks → has_room w path end ≡ true → (bytes : List ℕ) × (bytes_under ns path ≡ Some bytes) × (end ≤ length bytes)
 room_bytes w ns path end given room =
-    let holds = holds_is w path end room in
-    let there = bytes_of (disk w path) holds.0 holds.1 in
-    (there.0, ap (λ (ds : List Named). bytes_under ds path) given ∙ there.1, omega (arith, holds.2, there.2))
+    let long = holds_is w path end room in
+    let there = bytes_of (disk w path) long.0 long.1 in
+    (there.0, ap (λ (ds : List Named). bytes_under ds path) given ∙ there.1, omega (arith, long.2, there.2))
 
 -- of two tests of which neither holds
 neither : (x y : Bool) → (x || y) ≡ false → (x ≡ false) × (y ≡ false)
@@ -63,8 +63,8 @@ spans_of-other (x ∷ spans) s path other =
     ]
 
 -- the effects, one by one
-spared_replaced : (child : Child) (path bytes : List ℕ) (w : World) → spares_file child path ≡ false → Spared child w (replaced w path bytes)
-unfolding replaced
+spared_replaced : (child : Child) (path bytes : List ℕ) (w : World) → spares_file child path ≡ false → Spared child w (with_file w path bytes)
+unfolding with_file
 spared_replaced child path bytes w free = record {
   writes = refl;
   fetched = refl;
@@ -75,22 +75,22 @@ spared_replaced child path bytes w free = record {
   vars = λ spares. refl;
 }
 
-spared_put : (child : Child) (path bytes : List ℕ) (w : World) → Spared child w (file_put child path bytes w)
+spared_put : (child : Child) (path bytes : List ℕ) (w : World) → Spared child w (after_file_put child path bytes w)
 spared_put child path bytes w =
-    elim (spares_file child path || is_some (disk w path)) as (λ b. (spares_file child path || is_some (disk w path)) ≡ b → Spared child w (cond b w (replaced w path bytes))) [
+    elim (spares_file child path || is_some (disk w path)) as (λ b. (spares_file child path || is_some (disk w path)) ≡ b → Spared child w (cond b w (with_file w path bytes))) [
       | true ↦ λ e. spared_refl child w
       | false ↦ λ e. spared_replaced child path bytes w (neither (spares_file child path) (is_some (disk w path)) e).0
     ] refl
 
-spared_dropped : (child : Child) (prefix : List ℕ) (w : World) → Spared child w (dropped w child prefix)
-unfolding dropped
+spared_dropped : (child : Child) (prefix : List ℕ) (w : World) → Spared child w (without_files w child prefix)
+unfolding without_files
 spared_dropped child prefix w = record {
   writes = refl;
   fetched = refl;
   lengths = λ p. refl;
   disks = λ p spares. refl;
   pending = λ p spares. refl;
-  files = λ p spares. bytes_under-filter (λ q. keeps child prefix q) w.files p (either_left (spares_file child p) (not (starts_with nat_eq p prefix)) spares);
+  files = λ p spares. bytes_under-filter (λ q. keeps_file child prefix q) w.files p (either_left (spares_file child p) (not (starts_with nat_eq p prefix)) spares);
   vars = λ spares. refl;
 }
 
@@ -98,12 +98,12 @@ module _ (child : Child) (path : List ℕ) (at : ℕ) (bytes : List ℕ) (w : Wo
   other_path : (p : List ℕ) → spares_disk child p ≡ true → p ≢ path
   other_path p spares same = true≢false (sym spares ∙ ap (λ q. spares_disk child q) same ∙ free)
 
-  same_disks : (p : List ℕ) → disk (touched w path at bytes) p ≡ disk (written w path at bytes) p
-  unfolding touched written
+  same_disks : (p : List ℕ) → disk (with_child_write w path at bytes) p ≡ disk (with_write w path at bytes) p
+  unfolding with_child_write with_write
   same_disks p = refl
 
-  spared_touched : Holds w path (at + length bytes) → Spared child w (touched w path at bytes)
-  unfolding touched
+  spared_touched : HoldsUpTo w path (at + length bytes) → Spared child w (with_child_write w path at bytes)
+  unfolding with_child_write
   spared_touched room = record {
     writes = refl;
     fetched = refl;
@@ -114,49 +114,49 @@ module _ (child : Child) (path : List ℕ) (at : ℕ) (bytes : List ℕ) (w : Wo
     vars = λ spares. refl;
   }
 
-spared_disk : (child : Child) (path : List ℕ) (at : ℕ) (bytes : List ℕ) (w : World) → Spared child w (disk_touched child path at bytes w)
+spared_disk : (child : Child) (path : List ℕ) (at : ℕ) (bytes : List ℕ) (w : World) → Spared child w (after_disk_write child path at bytes w)
 spared_disk child path at bytes w =
-    elim (spares_disk child path || not (holds w path (at + length bytes))) as (λ b. (spares_disk child path || not (holds w path (at + length bytes))) ≡ b → Spared child w (cond b w (touched w path at bytes))) [
+    elim (spares_disk child path || not (has_room w path (at + length bytes))) as (λ b. (spares_disk child path || not (has_room w path (at + length bytes))) ≡ b → Spared child w (cond b w (with_child_write w path at bytes))) [
       | true ↦ λ e. spared_refl child w
       | false ↦ λ e.
-          let both = neither (spares_disk child path) (not (holds w path (at + length bytes))) e in
-          spared_touched child path at bytes w both.0 (holds_is w path (at + length bytes) (not_false (holds w path (at + length bytes)) both.1))
+          let both = neither (spares_disk child path) (not (has_room w path (at + length bytes))) e in
+          spared_touched child path at bytes w both.0 (holds_is w path (at + length bytes) (not_false (has_room w path (at + length bytes)) both.1))
     ] refl
 
-spared_effect : (child : Child) (e : Effect) (w : World) → Spared child w (effected child e w)
+spared_effect : (child : Child) (e : Effect) (w : World) → Spared child w (after_effect child e w)
 spared_effect child (PutFile path bytes) w = spared_put child path bytes w
 spared_effect child (DropFiles prefix) w = spared_dropped child prefix w
 spared_effect child (WriteDisk path at bytes) w = spared_disk child path at bytes w
 
-spared_effects : (child : Child) (es : List Effect) (w : World) → Spared child w (all_effected child es w)
+spared_effects : (child : Child) (es : List Effect) (w : World) → Spared child w (after_effects child es w)
 spared_effects child [] w = spared_refl child w
 spared_effects child (e ∷ es) w =
-    spared_trans child w (effected child e w) (all_effected child es (effected child e w)) (spared_effect child e w) (spared_effects child es (effected child e w))
+    spared_trans child w (after_effect child e w) (after_effects child es (after_effect child e w)) (spared_effect child e w) (spared_effects child es (after_effect child e w))
 
 -- no effect is a run
-runs_put : (child : Child) (path bytes : List ℕ) (w : World) → (file_put child path bytes w).runs ≡ w.runs
-unfolding replaced
+runs_put : (child : Child) (path bytes : List ℕ) (w : World) → (after_file_put child path bytes w).runs ≡ w.runs
+unfolding with_file
 runs_put child path bytes w =
-    elim (spares_file child path || is_some (disk w path)) as (λ b. (cond b w (replaced w path bytes)).runs ≡ w.runs) [ true ↦ refl | false ↦ refl ]
+    elim (spares_file child path || is_some (disk w path)) as (λ b. (cond b w (with_file w path bytes)).runs ≡ w.runs) [ true ↦ refl | false ↦ refl ]
 
-runs_disk : (child : Child) (path : List ℕ) (at : ℕ) (bytes : List ℕ) (w : World) → (disk_touched child path at bytes w).runs ≡ w.runs
-unfolding touched
+runs_disk : (child : Child) (path : List ℕ) (at : ℕ) (bytes : List ℕ) (w : World) → (after_disk_write child path at bytes w).runs ≡ w.runs
+unfolding with_child_write
 runs_disk child path at bytes w =
-    elim (spares_disk child path || not (holds w path (at + length bytes))) as (λ b. (cond b w (touched w path at bytes)).runs ≡ w.runs) [ true ↦ refl | false ↦ refl ]
+    elim (spares_disk child path || not (has_room w path (at + length bytes))) as (λ b. (cond b w (with_child_write w path at bytes)).runs ≡ w.runs) [ true ↦ refl | false ↦ refl ]
 
-runs_effect : (child : Child) (e : Effect) (w : World) → (effected child e w).runs ≡ w.runs
-unfolding dropped
+runs_effect : (child : Child) (e : Effect) (w : World) → (after_effect child e w).runs ≡ w.runs
+unfolding without_files
 runs_effect child (PutFile path bytes) w = runs_put child path bytes w
 runs_effect child (DropFiles prefix) w = refl
 runs_effect child (WriteDisk path at bytes) w = runs_disk child path at bytes w
 
-runs_effects : (child : Child) (es : List Effect) (w : World) → (all_effected child es w).runs ≡ w.runs
+runs_effects : (child : Child) (es : List Effect) (w : World) → (after_effects child es w).runs ≡ w.runs
 runs_effects child [] w = refl
-runs_effects child (e ∷ es) w = runs_effects child es (effected child e w) ∙ runs_effect child e w
+runs_effects child (e ∷ es) w = runs_effects child es (after_effect child e w) ∙ runs_effect child e w
 
 -- a child that was run
-spared_noted : (child : Child) (exit : Exit) (w : World) → Spared child w (noted_run w child exit)
-unfolding noted_run
+spared_noted : (child : Child) (exit : Exit) (w : World) → Spared child w (with_run w child exit)
+unfolding with_run
 spared_noted child exit w = record {
   writes = refl;
   fetched = refl;
@@ -167,34 +167,35 @@ spared_noted child exit w = record {
   vars = λ spares. refl;
 }
 
-runs_noted : (child : Child) (exit : Exit) (w : World) → (noted_run w child exit).runs ≡ w.runs ++ record { child = child; exit = exit } ∷ []
-unfolding noted_run
+runs_noted : (child : Child) (exit : Exit) (w : World) → (with_run w child exit).runs ≡ w.runs ++ record { child = child; exit = exit } ∷ []
+unfolding with_run
 runs_noted child exit w = refl
 
-pub runs_ran : (child : Child) (exit : Exit) (es : List Effect) (w : World) → (all_effected child es (noted_run w child exit)).runs ≡ w.runs ++ record { child = child; exit = exit } ∷ []
-runs_ran child exit es w = runs_effects child es (noted_run w child exit) ∙ runs_noted child exit w
+pub runs_ran : (child : Child) (exit : Exit) (es : List Effect) (w : World) → (after_effects child es (with_run w child exit)).runs ≡ w.runs ++ record { child = child; exit = exit } ∷ []
+runs_ran child exit es w = runs_effects child es (with_run w child exit) ∙ runs_noted child exit w
 
-pub after_ran : (child : Child) (exit : Exit) (es : List Effect) (w v : World) → v ≡ all_effected child es (noted_run w child exit) → After (Run child) Done w v
+pub after_ran : (child : Child) (exit : Exit) (es : List Effect) (w v : World) → v ≡ after_effects child es (with_run w child exit) → After (Run child) Done w v
 after_ran child exit es w v is = subst (λ (u : World). After (Run child) Done w u) (sym is) (
   exit,
   (
-    spared_trans child w (noted_run w child exit) (all_effected child es (noted_run w child exit)) (spared_noted child exit w) (spared_effects child es (noted_run w child exit)),
+    spared_trans child w (with_run w child exit) (after_effects child es (with_run w child exit)) (spared_noted child exit w) (spared_effects child es (with_run w child exit)),
     runs_ran child exit es w,
   ),
 )
 
 -- what takes a child's write back
-pub touched_back : (w : World) (p : List ℕ) (at : ℕ) (bytes old : List ℕ) → disk w p ≡ Some old → at + length bytes ≤ length old → undone (change.Touched p at (take (length bytes) (drop at old))) (touched w p at bytes) ≡ w
-unfolding touched
-touched_back w p at bytes old is fits =
-    ap (λ (ns : List Named). record w { disks = ns; pending = but_last (w.pending ++ record { path = p; at = at; length = length bytes } ∷ []) }) (put_back w (touched w p at bytes) p at bytes old is fits refl)
+pub child_write_back : (w : World) (p : List ℕ) (at : ℕ) (bytes old : List ℕ) → disk w p ≡ Some old → at + length bytes ≤ length old → world_before (change.ChildWrote p at (take (length bytes) (drop at old))) (with_child_write w p at bytes) ≡ w
+unfolding with_child_write
+child_write_back w p at bytes old is fits =
+    ap (λ (ns : List Named). record w { disks = ns; pending = but_last (w.pending ++ record { path = p; at = at; length = length bytes } ∷ []) }) (put_back w (with_child_write w p at bytes) p at bytes old is fits refl)
     ∙ ap (λ (ss : List Span). record w { pending = ss }) (but_last-push w.pending (record { path = p; at = at; length = length bytes }))
 
-pub touched_undone : (w w' : World) (path named : List ℕ) (at : ℕ) (bytes replaced : List ℕ) → holds w path (at + length bytes) ≡ true → named ≡ path → replaced ≡ take (length bytes) (drop at (unwrap_or (disk w path) [])) → w' ≡ touched w path at bytes → undone (change.Touched named at replaced) w' ≡ w
-touched_undone w w' path named at bytes replaced room same were is =
-    let there = room_bytes w w.disks path (at + length bytes) refl room in
-    let are : replaced ≡ take (length bytes) (drop at there.0) = were ∙ ap (λ (o : Option (List ℕ)). take (length bytes) (drop at (unwrap_or o []))) there.1 in
-    ap (λ (p : List ℕ). undone (change.Touched p at replaced) w') same
-    ∙ ap (λ (xs : List ℕ). undone (change.Touched path at xs) w') are
-    ∙ ap (λ (u : World). undone (change.Touched path at (take (length bytes) (drop at there.0))) u) is
-    ∙ touched_back w path at bytes there.0 there.1 there.2
+pub child_write_undone : (w w' : World) (path named : List ℕ) (at : ℕ) (bytes over : List ℕ) → HoldsUpTo w path (at + length bytes) → named ≡ path → over ≡ take (length bytes) (drop at (unwrap_or (disk w path) [])) → w' ≡ with_child_write w path at bytes → world_before (change.ChildWrote named at over) w' ≡ w
+child_write_undone w w' path named at bytes over room same were is =
+    let there = bytes_of (disk w path) room.0 room.1 in
+    let fits : at + length bytes ≤ length there.0 = omega (arith, room.2, there.2) in
+    let are : over ≡ take (length bytes) (drop at there.0) = were ∙ ap (λ (o : Option (List ℕ)). take (length bytes) (drop at (unwrap_or o []))) there.1 in
+    ap (λ (p : List ℕ). world_before (change.ChildWrote p at over) w') same
+    ∙ ap (λ (xs : List ℕ). world_before (change.ChildWrote path at xs) w') are
+    ∙ ap (λ (u : World). world_before (change.ChildWrote path at (take (length bytes) (drop at there.0))) u) is
+    ∙ child_write_back w path at bytes there.0 there.1 fits

@@ -1,59 +1,66 @@
 -- An undo log that gains a note.
 use Rattle.std.proofs.Common.{◌≡◌, inl, List, [], ◌∷◌, ◌++◌, reverse, refl, sym, ◌∙◌, ap, subst}
 use Rattle.std.proofs.lemmas.List.{reverse-append}
+use Rattle.boot_model.specs.declared.boot_kind.BootKind.{BootKind}
 use Rattle.machine.specs.declared.world.World.{World}
-use Rattle.machine.specs.Past.{Call, File, Size, Read, Write, Sync, Replace, Run, Clock, End, Broken, After, now, more, Did}
+use Rattle.machine.specs.Past.{Call, File, Size, Read, Write, Sync, Replace, Run, Clock, End, Broken, After, world_now, with_moments, IsCall}
+use Rattle.machine.specs.Spares.{Spared}
 use Rattle.machine.proofs.Moments.{now-more}
+use Rattle.machine.proofs.Sparing.{spared_refl}
 use Rattle.undo_log.specs.declared.notes.Change.{Change}
 use Rattle.undo_log.specs.declared.notes.Note.{Note}
 use Rattle.undo_log.specs.declared.log.UndoLog.{UndoLog}
-use Rattle.undo_log.specs.Undo.{call_of, end_of, moment_of, past_back, past_of, taken_back, undone}
-use Rattle.undo_log.specs.Logged.{Kept, Noted, told_by}
+use Rattle.undo_log.specs.Undo.{past_call, past_end, moment_of, past_from_newest, past_of, world_before_all, world_before}
+use Rattle.undo_log.specs.Logged.{SameLog, NotesCall, past_of_log}
 
 -- the last change is taken back first
-pub taken_back-push : (cs : List Change) (c : Change) (w : World) → taken_back (cs ++ c ∷ []) w ≡ taken_back cs (undone c w)
-taken_back-push [] c w = refl
-taken_back-push (x ∷ cs) c w = ap (λ (u : World). undone x u) (taken_back-push cs c w)
+pub world_before_all-push : (cs : List Change) (c : Change) (w : World) → world_before_all (cs ++ c ∷ []) w ≡ world_before_all cs (world_before c w)
+world_before_all-push [] c w = refl
+world_before_all-push (x ∷ cs) c w = ap (λ (u : World). world_before x u) (world_before_all-push cs c w)
 
 -- the past ends in the world from which it was told back
-now-back : (w : World) (ns : List Note) → now (past_back w ns) ≡ w
-now-back w [] = refl
-now-back w (n ∷ older) = now-more (past_back (taken_back n.changes w) older) (moment_of n w ∷ [])
+now-back : (boot : BootKind) (w : World) (ns : List Note) → world_now (past_from_newest boot w ns) ≡ w
+now-back boot w [] = refl
+now-back boot w (n ∷ older) = now-more (past_from_newest boot (world_before_all n.changes w) older) (moment_of n w ∷ [])
 
-pub now-past_of : (w : World) (notes : List Note) → now (past_of w notes) ≡ w
-now-past_of w notes = now-back w (reverse notes)
+pub now-past_of : (log : UndoLog) → world_now (past_of_log log) ≡ log.world
+now-past_of log = now-back log.boot log.world (reverse log.notes.items)
 
 -- a note more is a moment more
-past_of-push : (w w' : World) (notes : List Note) (n : Note) → taken_back n.changes w' ≡ w → past_of w' (notes ++ n ∷ []) ≡ more (past_of w notes) (moment_of n w' ∷ [])
-past_of-push w w' notes n back =
-    ap (λ (ns : List Note). past_back w' ns) (reverse-append notes (n ∷ []))
-    ∙ ap (λ (u : World). more (past_back u (reverse notes)) (moment_of n w' ∷ [])) back
+module _ (boot : BootKind) (w w' : World) (notes : List Note) (n : Note) (back : world_before_all n.changes w' ≡ w) where
+  past_of-push : past_of boot w' (notes ++ n ∷ []) ≡ with_moments (past_of boot w notes) (moment_of n w' ∷ [])
+  past_of-push =
+      ap (λ (ns : List Note). past_from_newest boot w' ns) (reverse-append notes (n ∷ []))
+      ∙ ap (λ (u : World). with_moments (past_from_newest boot u (reverse notes)) (moment_of n w' ∷ [])) back
 
--- what the trait asks of a call
-did_note : (w w' : World) (notes : List Note) (n : Note) → taken_back n.changes w' ≡ w → After (call_of n.asked) (end_of n.outcome) w w' → Did (past_of w notes) (past_of w' (notes ++ n ∷ [])) (call_of n.asked) (end_of n.outcome)
-did_note w w' notes n back after =
-    let here = now-past_of w' (notes ++ n ∷ []) in
-    record {
-      grows = past_of-push w w' notes n back
-          ∙ ap (λ (u : World). more (past_of w notes) (moment_of n u ∷ [])) (sym here);
-      after = subst (λ (u : World). After (call_of n.asked) (end_of n.outcome) u (now (past_of w' (notes ++ n ∷ [])))) (sym (now-past_of w notes))
-          (subst (λ (u : World). After (call_of n.asked) (end_of n.outcome) w u) (sym here) after);
-    }
+  -- what the trait asks of a call
+  did_note : After (past_call n.call) (past_end n.end) w w' → IsCall (past_of boot w notes) (past_of boot w' (notes ++ n ∷ [])) (past_call n.call) (past_end n.end)
+  did_note after =
+      let here = now-back boot w' (reverse (notes ++ n ∷ [])) in
+      record {
+        grows = past_of-push
+            ∙ ap (λ (u : World). with_moments (past_of boot w notes) (moment_of n u ∷ [])) (sym here);
+        after = subst (λ (u : World). After (past_call n.call) (past_end n.end) u (world_now (past_of boot w' (notes ++ n ∷ [])))) (sym (now-back boot w (reverse notes)))
+            (subst (λ (u : World). After (past_call n.call) (past_end n.end) w u) (sym here) after);
+      }
 
 -- a call that was noted
-pub did_noted : (old new : UndoLog) (call : Call) (end : End) → Noted old new call end → Did (told_by old) (told_by new) call end
+pub did_noted : (old new : UndoLog) (call : Call) (end : End) → NotesCall old new call end → IsCall (past_of_log old) (past_of_log new) call end
 did_noted old new call end h =
-    let after = subst (λ (k : Call). After k (end_of h.note.outcome) old.world new.world) (sym h.call_is)
+    let after = subst (λ (k : Call). After k (past_end h.note.end) old.world new.world) (sym h.call_is)
     (subst (λ (e : End). After call e old.world new.world) (sym h.end_is) h.after) in
-    subst (λ (ns : List Note). Did (told_by old) (past_of new.world ns) call end) (sym h.grows)
-    (subst (λ (k : Call). Did (told_by old) (past_of new.world (old.notes.items ++ h.note ∷ [])) k end) h.call_is
-    (subst (λ (e : End). Did (told_by old) (past_of new.world (old.notes.items ++ h.note ∷ [])) (call_of h.note.asked) e) h.end_is
-    (did_note old.world new.world old.notes.items h.note h.back after)))
+    subst (λ (boot : BootKind). IsCall (past_of_log old) (past_of boot new.world new.notes.items) call end) (sym h.boot)
+    (subst (λ (ns : List Note). IsCall (past_of_log old) (past_of old.boot new.world ns) call end) (sym h.grows)
+    (subst (λ (k : Call). IsCall (past_of_log old) (past_of old.boot new.world (old.notes.items ++ h.note ∷ [])) k end) h.call_is
+    (subst (λ (e : End). IsCall (past_of_log old) (past_of old.boot new.world (old.notes.items ++ h.note ∷ [])) (past_call h.note.call) e) h.end_is
+    (did_note old.boot old.world new.world old.notes.items h.note h.back after))))
 
 -- nothing was noted
-pub kept_told : (old new : UndoLog) → Kept old new → told_by new ≡ told_by old
-kept_told old new h =
-    ap (λ (w : World). past_of w new.notes.items) h.world ∙ ap (λ (ns : List Note). past_of old.world ns) h.notes
+pub same_past : (old new : UndoLog) → SameLog old new → past_of_log new ≡ past_of_log old
+same_past old new h =
+    ap (λ (boot : BootKind). past_of boot new.world new.notes.items) h.boot
+    ∙ ap (λ (w : World). past_of old.boot w new.notes.items) h.world
+    ∙ ap (λ (ns : List Note). past_of old.boot old.world ns) h.notes
 
 -- a call that failed and did nothing
 pub broken_same : (call : Call) (w v : World) → v ≡ w → After call Broken w v
@@ -63,5 +70,5 @@ broken_same (Read path count) w v e = e
 broken_same (Write path at count) w v e = inl e
 broken_same (Sync path) w v e = e
 broken_same (Replace path bytes) w v e = inl e
-broken_same (Run child) w v e = e
+broken_same (Run child) w v e = (subst (λ (u : World). Spared child w u) (sym e) (spared_refl child w), ap (λ (u : World). u.runs) e)
 broken_same (Clock seconds) w v e = e

@@ -1,20 +1,21 @@
 ghost use Rattle.std.specs.Prelude.{◌≡◌, ◌≤◌, ◌<◌, ◌+◌, ◌++◌, [], ◌∷◌, length, map, vec_len, bytes_eq, codes, filter, IfOk, OnOk, OnErr};
 ghost use Rattle.std.specs.Vec.{vec_capacity};
 ghost use Rattle.std.specs.List.{list_any};
-ghost use Rattle.machine.specs.Spares.{is_boot, is_within};
+ghost use Rattle.machine.specs.Spares.{is_boot};
 ghost use Rattle.machine.specs.Spares as machine_spec;
-ghost use Rattle.undo_log.specs.Effects.{effected};
+ghost use Rattle.updater_text.specs.Paths.{is_within};
+ghost use Rattle.undo_log.specs.Effects.{after_effect};
 ghost use Rattle.undo_log.specs.Effects as spec;
-ghost use Rattle.undo_log.specs.Undo.{emptied, marked, taken_back, undone_by};
+ghost use Rattle.undo_log.specs.Undo.{with_blanks_at, items_at, world_before_all, world_before_if};
 
-use crate::changes::{copy_range, put, take_back, touch};
+use crate::changes::{child_write_change, put_change, take_back};
 use crate::effect::Effect;
-use crate::lookup::{bytes_of, holds};
+use crate::lookup::{bytes_of, has_room};
 use crate::notes::Change;
-use machine::{Child, ChildClass, Copied, Named, RunNote, World, copy_bytes};
+use machine::{Child, ChildClass, Exit, Named, RunNote, TryClone, World};
 use std::alloc::Global;
 use std::mem;
-use updater_text::{Items, NoMemory, Text};
+use updater_text::{Items, NoMemory, Text, is_within};
 
 /// The file of the kernel's words, which every child leaves alone.
 const KERNEL_WORDS: &str = "/proc/cmdline";
@@ -23,15 +24,6 @@ fn is_boot(class: ChildClass) -> bool
     ensures { result ≡ is_boot class }
 {
     class == ChildClass::Boot
-}
-
-// Whether the path is this one, or lies below it.
-fn is_within(directory: &str, path: &str) -> bool
-    ensures { result ≡ is_within directory.now path.now }
-{
-    let bytes = path.as_bytes();
-    path == directory
-        || (bytes.starts_with(directory.as_bytes()) && bytes.get(directory.len()) == Some(&b'/'))
 }
 
 // Whether the path is among these.
@@ -63,8 +55,8 @@ fn spares_file(child: &Child, path: &str) -> bool
 }
 
 // Whether a file stays where those are dropped whose path begins so.
-fn keeps(child: &Child, prefix: &str, path: &str) -> bool
-    ensures { result ≡ spec.keeps child.now prefix.now path.now }
+fn keeps_file(child: &Child, prefix: &str, path: &str) -> bool
+    ensures { result ≡ spec.keeps_file child.now prefix.now path.now }
 {
     spares_file(child, path) || !path.as_bytes().starts_with(prefix.as_bytes())
 }
@@ -76,11 +68,11 @@ fn marks_of(
     child: &Child,
     prefix: &str,
 ) -> Result<Items<bool>, NoMemory>
-    ensures { IfOk result (λ stays. stays ≡ map (λ n. spec.keeps child.now prefix.now n.path) files.now) }
+    ensures { IfOk result (λ stays. stays ≡ map (λ n. spec.keeps_file child.now prefix.now n.path) files.now) }
 {
     let mut stays = Items::new(alloc);
     for file in files {
-        stays.push(keeps(child, prefix, file.path.as_str()))?;
+        stays.push(keeps_file(child, prefix, file.path.as_str()))?;
     }
     Ok(stays)
 }
@@ -88,8 +80,8 @@ fn marks_of(
 // Takes a file, if it is marked, and leaves an empty one in its place.
 fn take_file(alloc: Global, place: &mut Named, is_marked: bool, taken: &mut Vec<Named>)
     requires { vec_len taken.old < vec_capacity taken.old }
-    ensures place { place.new ∷ [] ≡ emptied (is_marked ∷ []) (place.old ∷ []) }
-    ensures taken { taken.new.items ≡ taken.old.items ++ marked (is_marked ∷ []) (place.old ∷ []) }
+    ensures place { place.new ∷ [] ≡ with_blanks_at (is_marked ∷ []) (place.old ∷ []) }
+    ensures taken { taken.new.items ≡ taken.old.items ++ items_at (is_marked ∷ []) (place.old ∷ []) }
     ensures count { vec_len taken.new ≤ vec_len taken.old + 1 }
     ensures room { vec_capacity taken.new ≡ vec_capacity taken.old }
 {
@@ -107,15 +99,15 @@ fn take_files(alloc: Global, files: &mut [Named], marks: &[bool], taken: &mut Ve
     requires as_many { length marks.now ≡ length files.old }
     requires none { taken.old.items ≡ [] }
     requires room { length files.old ≤ vec_capacity taken.old }
-    ensures files { files.new ≡ emptied marks.now files.old }
-    ensures taken { taken.new.items ≡ marked marks.now files.old }
+    ensures files { files.new ≡ with_blanks_at marks.now files.old }
+    ensures taken { taken.new.items ≡ items_at marks.now files.old }
 {
     for at in 0..files.len() {
         take_file(alloc, &mut files[at], marks[at], taken);
     }
 }
 
-#[tactic(auto, unfolding(machine::specs::World::replaced))]
+// Puts a file, unless the child must leave it alone or a disk is there.
 fn put_file(
     alloc: Global,
     world: &mut World,
@@ -123,31 +115,25 @@ fn put_file(
     path: &str,
     bytes: &[u8],
 ) -> Result<Option<Change>, NoMemory>
-    ensures ok { OnOk result (world.new ≡ spec.file_put child.now path.now bytes.now world.old) }
-    ensures back { IfOk result (λ change. undone_by change world.new ≡ world.old) }
+    ensures ok { OnOk result (world.new ≡ spec.after_file_put child.now path.now bytes.now world.old) }
+    ensures back { IfOk result (λ change. world_before_if change world.new ≡ world.old) }
     ensures err { OnErr result (world.new ≡ world.old) }
 {
     if spares_file(child, path) || bytes_of(world.disks.as_slice(), path).is_some() {
         return Ok(None);
     }
-    let named = Text::new(alloc, path)?;
-    let bytes = copy_bytes(alloc, bytes)?;
-    let replaced = put(alloc, &mut world.files, path, bytes)?;
-    Ok(Some(Change::Put {
-        path: named,
-        replaced,
-    }))
+    Ok(Some(put_change(alloc, world, path, bytes)?))
 }
 
-#[tactic(auto, unfolding(crate::specs::Effects::dropped))]
+#[tactic(auto, unfolding(crate::specs::Effects::without_files))]
 fn drop_files(
     alloc: Global,
     world: &mut World,
     child: &Child,
     prefix: &str,
 ) -> Result<Option<Change>, NoMemory>
-    ensures ok { OnOk result (world.new ≡ spec.dropped world.old child.now prefix.now) }
-    ensures back { IfOk result (λ change. undone_by change world.new ≡ world.old) }
+    ensures ok { OnOk result (world.new ≡ spec.without_files world.old child.now prefix.now) }
+    ensures back { IfOk result (λ change. world_before_if change world.new ≡ world.old) }
     ensures err { OnErr result (world.new ≡ world.old) }
 {
     let stays = marks_of(alloc, world.files.as_slice(), child, prefix)?;
@@ -158,7 +144,8 @@ fn drop_files(
     Ok(Some(Change::Dropped { places, stays }))
 }
 
-fn touch_disk(
+// Writes a range of a disk, unless the child must leave the disk alone or the range doesn't lie on it.
+fn write_disk(
     alloc: Global,
     world: &mut World,
     child: &Child,
@@ -166,22 +153,14 @@ fn touch_disk(
     at: u64,
     bytes: &[u8],
 ) -> Result<Option<Change>, NoMemory>
-    ensures ok { OnOk result (world.new ≡ spec.disk_touched child.now path.now at bytes.now world.old) }
-    ensures back { IfOk result (λ change. undone_by change world.new ≡ world.old) }
+    ensures ok { OnOk result (world.new ≡ spec.after_disk_write child.now path.now at bytes.now world.old) }
+    ensures back { IfOk result (λ change. world_before_if change world.new ≡ world.old) }
     ensures err { OnErr result (world.new ≡ world.old) }
 {
-    if spares_disk(child, path) || !holds(world, path, at, bytes.len() as u64) {
+    if spares_disk(child, path) || !has_room(world, path, at, bytes.len() as u64) {
         return Ok(None);
     }
-    let named = Text::new(alloc, path)?;
-    let disks = world.disks.as_slice();
-    let replaced = copy_range(alloc, disks, path, at as usize, bytes.len())?;
-    touch(alloc, world, path, at, bytes)?;
-    Ok(Some(Change::Touched {
-        path: named,
-        at,
-        replaced,
-    }))
+    Ok(Some(child_write_change(alloc, world, path, at, bytes)?))
 }
 
 // Does one effect of a child; None where nothing is changed.
@@ -191,8 +170,8 @@ fn change_world(
     child: &Child,
     effect: &Effect,
 ) -> Result<Option<Change>, NoMemory>
-    ensures ok { OnOk result (world.new ≡ effected child.now effect.now world.old) }
-    ensures back { IfOk result (λ change. undone_by change world.new ≡ world.old) }
+    ensures ok { OnOk result (world.new ≡ after_effect child.now effect.now world.old) }
+    ensures back { IfOk result (λ change. world_before_if change world.new ≡ world.old) }
     ensures err { OnErr result (world.new ≡ world.old) }
 {
     match effect {
@@ -201,7 +180,7 @@ fn change_world(
         }
         Effect::DropFiles { prefix } => drop_files(alloc, world, child, prefix.as_str()),
         Effect::WriteDisk { path, at, bytes } => {
-            touch_disk(alloc, world, child, path.as_str(), *at, bytes.as_slice())
+            write_disk(alloc, world, child, path.as_str(), *at, bytes.as_slice())
         }
     }
 }
@@ -214,8 +193,8 @@ fn do_effect(
     effect: &Effect,
     changes: &mut Vec<Change>,
 ) -> Result<(), NoMemory>
-    ensures ok { OnOk result (world.new ≡ effected child.now effect.now world.old) }
-    ensures back { taken_back changes.new.items world.new ≡ taken_back changes.old.items world.old }
+    ensures ok { OnOk result (world.new ≡ after_effect child.now effect.now world.old) }
+    ensures back { world_before_all changes.new.items world.new ≡ world_before_all changes.old.items world.old }
 {
     changes.reserve(1)?;
     if let Some(change) = change_world(alloc, world, child, effect)? {
@@ -233,8 +212,8 @@ fn do_effects(
     effects: &[Effect],
     changes: &mut Vec<Change>,
 ) -> Result<(), NoMemory>
-    ensures ok { OnOk result (world.new ≡ spec.all_effected child.now effects.now world.old) }
-    ensures back { taken_back changes.new.items world.new ≡ taken_back changes.old.items world.old }
+    ensures ok { OnOk result (world.new ≡ spec.after_effects child.now effects.now world.old) }
+    ensures back { world_before_all changes.new.items world.new ≡ world_before_all changes.old.items world.old }
 {
     for effect in effects {
         do_effect(alloc, world, child, effect, changes)?;
@@ -242,27 +221,58 @@ fn do_effects(
     Ok(())
 }
 
-/// Notes a child among the runs, and does its effects: all or none.
-#[tactic(auto, unfolding(crate::specs::Effects::noted_run))]
-pub fn run(
+// Does effects of a child in turn, or takes them and the changes before them back.
+fn do_all_or_none(
     alloc: Global,
     world: &mut World,
-    note: RunNote,
+    child: &Child,
     effects: &[Effect],
+    mut changes: Vec<Change>,
 ) -> Result<Items<Change>, NoMemory>
-    ensures ok { OnOk result (world.new ≡ spec.all_effected note.child effects.now (spec.noted_run world.old note.child note.exit)) }
-    ensures back { IfOk result (λ changes. taken_back changes world.new ≡ world.old) }
-    ensures err { OnErr result (world.new ≡ world.old) }
+    ensures ok { OnOk result (world.new ≡ spec.after_effects child.now effects.now world.old) }
+    ensures back { IfOk result (λ done. world_before_all done world.new ≡ world_before_all changes.items world.old) }
+    ensures err { OnErr result (world.new ≡ world_before_all changes.items world.old) }
 {
-    let child = note.child.copied(alloc)?;
-    let mut changes = Vec::with_capacity(alloc, 1)?;
-    world.runs.push(note)?;
-    changes.push_reserved(Change::Ran);
-    match do_effects(alloc, world, &child, effects, &mut changes) {
+    match do_effects(alloc, world, child, effects, &mut changes) {
         Ok(()) => Ok(Items::from_vec(changes)),
         Err(NoMemory) => {
             take_back(world, changes);
             Err(NoMemory)
         }
     }
+}
+
+// Adds a child and its end to the runs.
+fn push_run(
+    alloc: Global,
+    runs: &mut Items<RunNote>,
+    child: &Child,
+    exit: &Exit,
+) -> Result<(), NoMemory>
+    ensures ok { OnOk result (runs.new ≡ runs.old ++ record { child = child.now; exit = exit.now } ∷ []) }
+    ensures err { OnErr result (runs.new ≡ runs.old) }
+{
+    let child = child.try_clone(alloc)?;
+    let exit = exit.try_clone(alloc)?;
+    runs.push(RunNote { child, exit })?;
+    Ok(())
+}
+
+/// Adds a child to the runs, and does its effects: all or none.
+#[tactic(auto, unfolding(crate::specs::Effects::with_run))]
+pub fn run(
+    alloc: Global,
+    world: &mut World,
+    child: &Child,
+    exit: &Exit,
+    effects: &[Effect],
+) -> Result<Items<Change>, NoMemory>
+    ensures ok { OnOk result (world.new ≡ spec.after_effects child.now effects.now (spec.with_run world.old child.now exit.now)) }
+    ensures back { IfOk result (λ changes. world_before_all changes world.new ≡ world.old) }
+    ensures err { OnErr result (world.new ≡ world.old) }
+{
+    let mut changes = Vec::with_capacity(alloc, 1)?;
+    push_run(alloc, &mut world.runs, child, exit)?;
+    changes.push_reserved(Change::Ran);
+    do_all_or_none(alloc, world, child, effects, changes)
 }

@@ -11,5 +11,5 @@ mod notes;
 
 pub use effect::Effect;
 pub use log::UndoLog;
-pub use lookup::{bytes_of, holds};
-pub use notes::{Asked, Whole};
+pub use lookup::{bytes_of, has_room};
+pub use notes::{NotedCall, Whole};

@@ -1,6 +1,6 @@
 ghost use Rattle.std.specs.Prelude.{◌≡◌, ◌+◌, ◌-◌, ◌<◌, ◌^◌, length, take, drop, min, position, bytes_eq, IfOk, IfSome};
 ghost use Rattle.std.specs.Option.{option_copied, option_map};
-ghost use Rattle.machine.specs.World.{bytes_under, readable, size_of};
+ghost use Rattle.machine.specs.World.{bytes_under, readable, length_under};
 ghost use Rattle.undo_log.specs.Whole.{WholeFound};
 ghost use Rattle.undo_log.specs.Effects as spec;
 
@@ -38,8 +38,8 @@ pub fn length_of(list: &[Named], path: &str) -> Option<u64>
 }
 
 /// Whether the disk has room for so many bytes from byte `at` on.
-pub fn holds(world: &World, path: &str, at: u64, count: u64) -> bool
-    ensures { result ≡ spec.holds world.now path.now (at + count) }
+pub fn has_room(world: &World, path: &str, at: u64, count: u64) -> bool
+    ensures { result ≡ spec.has_room world.now path.now (at + count) }
 {
     match length_of(world.disks.as_slice(), path) {
         Some(room) => at <= room && count <= room - at,
@@ -77,7 +77,7 @@ pub fn bytes_read<'a>(world: &'a World, path: &str) -> &'a [u8]
 
 /// The length of the disk or, where `disk` is false, of the disk or file. It is below 2^63.
 pub fn size_under(world: &World, path: &str, disk: bool) -> Option<u64>
-    ensures count { result ≡ size_of world.now path.now disk }
+    ensures count { result ≡ length_under world.now path.now disk }
     ensures small { IfSome result (λ count. count < 2 ^ 63) }
 {
     match length_of(world.disks.as_slice(), path) {

@@ -1,9 +1,10 @@
 use machine::{Child, Named, Span};
 use updater_text::{Items, Text};
 
-/// A call that was asked for.
+/// A call that was asked for, with what its past tells: of a read the number of bytes that it gave,
+/// of the clock the seconds that it said.
 #[derive(Drop)]
-pub enum Asked {
+pub enum NotedCall {
     File { path: Text },
     Size { path: Text },
     Read { path: Text, count: u64 },
@@ -16,7 +17,7 @@ pub enum Asked {
 
 /// How a call ended: it was done, it failed, or the file was longer than asked for.
 #[derive(Clone, Copy, Debug, PartialEq, Eq)]
-pub enum Outcome {
+pub enum NotedEnd {
     Done,
     Failed,
     TooLong,
@@ -36,7 +37,7 @@ pub enum Change {
         replaced: Items<u8>,
     },
     /// These bytes of a disk were written over by a child; its range is the last that is pending.
-    Touched {
+    ChildWrote {
         path: Text,
         at: u64,
         replaced: Items<u8>,
@@ -63,8 +64,8 @@ pub enum Change {
 /// A call, and the changes that it made.
 #[derive(Drop)]
 pub struct Note {
-    pub asked: Asked,
-    pub outcome: Outcome,
+    pub call: NotedCall,
+    pub end: NotedEnd,
     pub changes: Items<Change>,
 }
 

@@ -2,9 +2,9 @@
 use Rattle.std.specs.Prelude.{◌≡◌, ◌≤◌, ◌+◌, ◌-◌, ◌^◌, ℕ, min}
 
 -- a count rose from one moment to a later one; one that stands at its last value counts as risen
-abbrev pub Rose : ℕ → ℕ → Type 0
-Rose before after = (before ≤ after) × (before ≡ after → 2 ^ 64 ≤ after + 1)
+abbrev pub CountRose : ℕ → ℕ → Type 0
+CountRose before after = (before ≤ after) × (before ≡ after → 2 ^ 64 ≤ after + 1)
 
 -- a count after one more
-abbrev pub counted : ℕ → ℕ
-counted before = min (before + 1) (2 ^ 64 - 1)
+abbrev pub next_count : ℕ → ℕ
+next_count before = min (before + 1) (2 ^ 64 - 1)

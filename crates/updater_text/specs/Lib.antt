@@ -4,6 +4,7 @@ pub mod Digests
 pub mod Flags
 pub mod Lent
 pub mod Numbers
+pub mod Paths
 pub mod Quotes
 pub mod Sinks
 pub mod Sizes

@@ -12,13 +12,13 @@ unit_of letter =
     else None
 
 -- so many units, where their bytes fit 64 bits
-abbrev pub scaled : ℕ → ℕ → Option ℕ
-scaled unit number = if nat_lt (number * unit) (2 ^ 64) then Some (number * unit) else None
+abbrev pub size_in : ℕ → ℕ → Option ℕ
+size_in unit number = if nat_lt (number * unit) (2 ^ 64) then Some (number * unit) else None
 
 -- a number of bytes, or of the unit that the last letter stands for
 abbrev pub sized_by : Option ℕ → List ℕ → Option ℕ
 sized_by None text = number_of text
-sized_by (Some unit) text = option_and_then (scaled unit) (number_of (take (length text - 1) text))
+sized_by (Some unit) text = option_and_then (size_in unit) (number_of (take (length text - 1) text))
 
 -- a number, alone or with the letter of a unit behind it
 abbrev pub size_of : List ℕ → Option ℕ

@@ -11,25 +11,3 @@ pub fn read_flag(bytes: &[u8]) -> Option<bool>
         _ => None,
     }
 }
-
-#[cfg(test)]
-mod tests {
-    use crate::read_flag;
-    use std::test::Fail;
-
-    #[test]
-    fn reads_flags(rt: HostRuntime) -> Result<(), Fail> {
-        let rows: [(&[u8], Option<bool>); 6] = [
-            (b"true", Some(true)),
-            (b"1", Some(true)),
-            (b"false", Some(false)),
-            (b"0", Some(false)),
-            (b"True", None),
-            (b"", None),
-        ];
-        for (text, flag) in rows.iter() {
-            assert_eq!(rt; read_flag(text), *flag);
-        }
-        Ok(())
-    }
-}

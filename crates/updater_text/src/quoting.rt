@@ -1,13 +1,13 @@
 ghost use Rattle.std.specs.Prelude.{◌≡◌, ◌++◌, ◌∷◌, [], IfOk, OnOk, string_bytes};
 ghost use Rattle.std.specs.List.{flat_map};
-ghost use Rattle.updater_text.specs.Quotes.{quoted, quoted_byte};
+ghost use Rattle.updater_text.specs.Quotes.{quote_of, quote_byte};
 
 use crate::{NoMemory, Text};
 use std::alloc::{AllocError, Global};
 
 // Appends a text, with each quote in it written `'\''`.
 fn push_quoted(out: &mut String, text: &str) -> Result<(), AllocError>
-    ensures { OnOk result (string_bytes out.new ≡ string_bytes out.old ++ flat_map quoted_byte text.now) }
+    ensures { OnOk result (string_bytes out.new ≡ string_bytes out.old ++ flat_map quote_byte text.now) }
 {
     let mut left = text;
     while let Some((plain, rest)) = left.split_once('\'') {
@@ -21,24 +21,11 @@ fn push_quoted(out: &mut String, text: &str) -> Result<(), AllocError>
 
 /// The text between single quotes, with each quote in it written `'\''`, as a shell reads it back.
 pub fn quote(alloc: Global, text: &str) -> Result<Text, NoMemory>
-    ensures { IfOk result (λ quote. quote ≡ quoted text.now) }
+    ensures { IfOk result (λ quote. quote ≡ quote_of text.now) }
 {
     let mut out = String::new(alloc);
     out.push('\'')?;
     push_quoted(&mut out, text)?;
     out.push('\'')?;
     Ok(Text::from_string(out))
-}
-
-#[cfg(test)]
-mod tests {
-    use crate::quote;
-    use std::test::Fail;
-
-    #[test]
-    fn quotes(rt: HostRuntime) -> Result<(), Fail> {
-        let text = quote(rt.alloc(), "it's 'a'")?;
-        assert_eq!(rt; text.as_str(), "'it'\\''s '\\''a'\\'''");
-        Ok(())
-    }
 }

@@ -27,27 +27,3 @@ pub fn read_size(bytes: &[u8]) -> Option<u64>
         None => read_number(bytes),
     }
 }
-
-#[cfg(test)]
-mod tests {
-    use crate::read_size;
-    use std::test::Fail;
-
-    #[test]
-    fn reads_sizes(rt: HostRuntime) -> Result<(), Fail> {
-        let rows: [(&[u8], Option<u64>); 8] = [
-            (b"64K", Some(65_536)),
-            (b"007", Some(7)),
-            (b"16777215T", Some(18_446_742_974_197_923_840)),
-            (b"16777216T", None),
-            (b"18446744073709551616", None),
-            (b"K", None),
-            (b"1k", None),
-            (b"", None),
-        ];
-        for (text, size) in rows.iter() {
-            assert_eq!(rt; read_size(text), *size);
-        }
-        Ok(())
-    }
-}

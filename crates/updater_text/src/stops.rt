@@ -33,24 +33,3 @@ impl<R> From<NoMemory> for Lack<R> {
         Lack::NoMemory
     }
 }
-
-/// The kind of a machine call that failed.
-#[derive(Clone, Copy, Debug, PartialEq, Eq)]
-pub enum Fault {
-    Read,
-    Write,
-    Sync,
-    Size,
-    Replace,
-    Run,
-    Clock,
-}
-
-/// Why a call over a machine gave no value: a refusal of its own, a machine call that failed, or
-/// want of memory.
-#[derive(Clone, Debug, Drop)]
-pub enum Stop<R> {
-    Refused(R),
-    Outside(Fault),
-    NoMemory,
-}

@@ -1,5 +1,5 @@
 ghost use Rattle.std.specs.Prelude.{◌≡◌};
-ghost use Rattle.updater_text.specs.Counts.{Rose};
+ghost use Rattle.updater_text.specs.Counts.{CountRose};
 
 use crate::{Failed, Sink};
 use std::io::Write;
@@ -22,7 +22,7 @@ impl<W: Write + Drop> WriterSink<W> {
     // Counts a fault.
     fn fail(&mut self) -> Failed
         ensures writer { self.new.writer ≡ self.old.writer }
-        ensures faults { Rose self.old.faults self.new.faults }
+        ensures faults { CountRose self.old.faults self.new.faults }
     {
         self.faults = self.faults.saturating_add(1);
         Failed

@@ -1,8 +1,8 @@
 use Rattle.std.proofs.Common.{◌≡◌, ◌<◌, ◌≤◌, ◌+◌, ◌-◌, ℕ, Ok, Err, refl, length, take, drop, subst, ◌∙◌, arith}
 use Rattle.std.proofs.lemmas.List.{length-drop, length-take}
 use borrow.Rule.Slice.PartMut.{put_mid, same_len_mid}
-use Rattle.machine.specs.World.{fetching}
-use Rattle.machine.specs.Past.{Read, now}
+use Rattle.machine.specs.World.{with_fetched}
+use Rattle.machine.specs.Past.{Read, world_now}
 use Rattle.machine.proofs.Joins.{reads_join, reads_none}
 use Rattle.machine.proofs.Failing.{fails_call, fails_join, fails_none}
 use Rattle.machine.proofs.Reading.{Filled, filled_end, filled_full, filled_more, filled_none, reads_at}
@@ -45,7 +45,7 @@ returns-then-count-eq0-clause-left g c = λ told.
     let rest_is : length c.read_at.new.into ≡ length c.loop-done.into - c.loop-done.done = c.read_at.auto.into ∙ simp (length-take, length-drop) (omega arith) in
     let filled = filled_more _ _ _ (g.M.Machine.past c.read_at.new.self) _ _ _ _ _ _ c.read_at.new.into c.loop-done.invariant.within rest_is c.loop-done.invariant.filled c.in-Ok.ensures.past c.in-Ok.ensures.answer in
     let same : c.loop-done.done + c.in-Ok.count ≡ c.loop-done.done = omega (arith, c.if-count-eq0.true) in
-    subst (λ (k : ℕ). now (g.M.Machine.past c.read_at.new.self) ≡ fetching (now (g.M.Machine.past c.args.m.now)) c.args.path.now k) same (filled.left told)
+    subst (λ (k : ℕ). world_now (g.M.Machine.past c.read_at.new.self) ≡ with_fetched (world_now (g.M.Machine.past c.args.m.now)) c.args.path.now k) same (filled.left told)
 
 pub returns-then-count-eq0-clause-fails : goal.returns-then-count-eq0-clause-fails
 returns-then-count-eq0-clause-fails g c =

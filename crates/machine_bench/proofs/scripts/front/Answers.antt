@@ -18,5 +18,5 @@ taken : {E : Type 0} (r : Result (List ℕ) E) (xs : List ℕ) (n k : ℕ) → k
 taken (Ok kept) xs n k is h = h ∙ take-min xs n k is
 taken (Err e) xs n k is h = tt
 
-pub returns-clause-kept : goal.returns-clause-kept
-returns-clause-kept c = taken _ c.args.bytes.now 65536 c.min.result c.min.ensures c.copy_bytes.ensures
+pub returns : goal.returns
+returns c = taken _ c.args.bytes.now 65536 c.min.result c.min.ensures c.copy_bytes.ensures

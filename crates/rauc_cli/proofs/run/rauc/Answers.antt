@@ -1,17 +1,29 @@
-use Rattle.rauc_words.specs.Table.{command_of}
-use Rattle.machine.specs.Past.{now}
-use Rattle.rauc_cli.specs.Plans.{plan_of}
-use Rattle.rauc_cli.proofs.Ending.{complete, finished_memory, finished_report}
+use Rattle.std.proofs.Common.{Ok, Err}
+use Rattle.rauc_cli.proofs.Finishing.{carries_memory, carries_whole, cause_memory, cause_whole, reports_memory, reports_whole, stands}
 use Rattle.rauc_cli.proofs.run.rauc.Goals as goal
 
-pub returns-in-Err-clause-finished : goal.returns-in-Err-clause-finished
-returns-in-Err-clause-finished g c =
-    finished_memory _ (command_of c.args.words.now) _ _ _ _ _ _ c.in-Err.field-0 _ c.in-Err.ensures.ended (rw c.as_bytes-in-Err.ensures.value at c.tell-told-in-Err.ensures)
+pub returns-in-Ok-clause-reports : goal.returns-in-Ok-clause-reports
+returns-in-Ok-clause-reports g c =
+    reports_whole _ c.args.words.now _ _ _ _ c.in-Ok.report _ c.in-Ok.ensures.ended c.in-Ok.ensures.texts (rw (c.as_bytes.ensures, c.as_bytes-in-Ok.ensures) at c.tell-told.ensures)
 
-pub returns-in-Ok-clause-finished : goal.returns-in-Ok-clause-finished
-returns-in-Ok-clause-finished g c =
-    finished_report _ (command_of c.args.words.now) _ _ _ _ _ _ c.in-Ok.report _ c.in-Ok.ensures.ended c.in-Ok.ensures.spoken (rw (c.as_bytes.ensures, c.as_bytes-in-Ok.ensures) at c.tell-told.ensures)
+pub returns-in-Ok-clause-carries_out : goal.returns-in-Ok-clause-carries_out
+returns-in-Ok-clause-carries_out g c = carries_whole _ c.args.words.now _ _ c.in-Ok.report c.in-Ok.ensures.ended
 
-pub returns-in-Ok-clause-complete : goal.returns-in-Ok-clause-complete
-returns-in-Ok-clause-complete g c =
-    complete _ (plan_of c.args.words.now (now (g.M.Machine.past c.args.machine.now))) _ _ _ _ _ _ _ (command_of c.args.words.now) _ _ (returns-in-Ok-clause-finished g c) c.in-Ok.ensures.cause
+pub returns-in-Ok-clause-stands_a_stop : goal.returns-in-Ok-clause-stands_a_stop
+returns-in-Ok-clause-stands_a_stop g c = stands _ c.args.words.now _ _ (Ok c.in-Ok.report) c.in-Ok.ensures.ended
+
+pub returns-in-Ok-clause-has_cause : goal.returns-in-Ok-clause-has_cause
+returns-in-Ok-clause-has_cause g c =
+    cause_whole _ c.args.words.now _ _ _ _ c.in-Ok.report c.in-Ok.ensures.ended c.in-Ok.ensures.texts c.in-Ok.ensures.counts
+
+pub returns-in-Err-clause-reports : goal.returns-in-Err-clause-reports
+returns-in-Err-clause-reports g c = reports_memory _ c.args.words.now _ _ _ _ _ (rw c.as_bytes-in-Err.ensures.value at c.tell-told-in-Err.ensures)
+
+pub returns-in-Err-clause-carries_out : goal.returns-in-Err-clause-carries_out
+returns-in-Err-clause-carries_out g c = carries_memory _ c.args.words.now _ _ c.in-Err.field-0 c.in-Err.ensures.ended
+
+pub returns-in-Err-clause-stands_a_stop : goal.returns-in-Err-clause-stands_a_stop
+returns-in-Err-clause-stands_a_stop g c = stands _ c.args.words.now _ _ (Err c.in-Err.field-0) c.in-Err.ensures.ended
+
+pub returns-in-Err-clause-has_cause : goal.returns-in-Err-clause-has_cause
+returns-in-Err-clause-has_cause g c = cause_memory _ c.args.words.now _ _ _ _ c.in-Err.ensures.counts

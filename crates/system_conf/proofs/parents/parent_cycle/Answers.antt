@@ -2,8 +2,8 @@ use Rattle.std.proofs.Common.{◌∙◌, sym, ap}
 use Rattle.std.specs.List.{enumerate_from}
 use Rattle.conf_forms.specs.Lists.{first_of}
 use Rattle.system_conf.specs.Refusals.{endless, parent_cycle}
-use Rattle.system_conf.proofs.FirstOf.{item_hit, item_more}
-use Rattle.system_conf.proofs.Numbered.{numbered_at, numbered_within, numbered_all}
+use Rattle.conf_forms.proofs.FirstOf.{item_hit, item_more}
+use Rattle.conf_forms.proofs.Numbered.{numbered_at, numbered_within, numbered_all}
 use Rattle.system_conf.proofs.parents.parent_cycle.Goals as goal
 
 pub returns-in-Some : goal.returns-in-Some

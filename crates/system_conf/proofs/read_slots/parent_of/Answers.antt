@@ -8,5 +8,5 @@ use Rattle.system_conf.proofs.read_slots.parent_of.Goals as goal
 
 pub returns-in-Some : goal.returns-in-Some
 returns-in-Some c =
-    c.slot_called.ensures ∙ position-names (λ (n : Text). bytes_eq n c.in-Some.name.now) c.args.file.now c.args.groups.now c.requires
-    ∙ ap (λ (o : Option Text). option_and_then (slot_called c.args.file.now) o) c.in-Some.ensures
+    c.slot_called.ensures ∙ position-names (λ (n : Text). bytes_eq n c.in-Some.name.now) c.args.reader.now.file.now c.args.reader.now.slots.now c.args.reader.now.read
+    ∙ ap (λ (o : Option Text). option_and_then (slot_called c.args.reader.now.file.now) o) c.in-Some.ensures

@@ -5,10 +5,10 @@ use Rattle.conf_forms.proofs.SlotNames.{parts_at}
 use Rattle.system_conf.proofs.SlotGroups.{slots_read}
 use Rattle.system_conf.proofs.read_slots.read_slots.Goals as goal
 
-pub read_slot-requires-clause-slot : goal.read_slot-requires-clause-slot
-read_slot-requires-clause-slot c = parts_at c.args.file.now c.args.groups.now c.requires c.loop-group.group-index _ c.loop-group-test.true
+pub read_slot-requires : goal.read_slot-requires
+read_slot-requires c = parts_at c.args.reader.now.file.now c.args.reader.now.slots.now c.args.reader.now.read c.loop-group.group-index _ c.loop-group-test.true
 
 pub returns : goal.returns
 returns c =
-    c.loop-group.invariant ∙ ap (map (λ (s : SlotGroup). slot_of c.args.file.now s.group.now)) (take_all c.loop-group.group-index c.args.groups.now c.loop-group-test.false)
-    ∙ slots_read c.args.file.now c.args.groups.now c.requires
+    c.loop-group.invariant ∙ ap (map (λ (s : SlotGroup). slot_of c.args.reader.now.file.now s.group.now)) (take_all c.loop-group.group-index c.args.reader.now.slots.now c.loop-group-test.false)
+    ∙ slots_read c.args.reader.now.file.now c.args.reader.now.slots.now c.args.reader.now.read

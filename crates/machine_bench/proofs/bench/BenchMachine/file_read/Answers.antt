@@ -4,21 +4,21 @@ use Rattle.machine.specs.declared.calls.CallStop.{CallStop}
 use Rattle.undo_log.specs.declared.notes.Whole.{Whole}
 use Rattle.undo_log.specs.declared.log.UndoLog.{UndoLog}
 use Rattle.machine.specs.World.{file}
-use Rattle.machine.specs.Past.{now}
+use Rattle.machine.specs.Past.{world_now}
 use Rattle.machine.specs.Calls.{FileEnds, ReadsFile}
-use Rattle.undo_log.specs.Logged.{told_by}
+use Rattle.undo_log.specs.Logged.{past_of_log}
 use Rattle.undo_log.specs.Whole.{WholeFound}
 use Rattle.undo_log.proofs.Undoing.{now-past_of}
 use Rattle.machine_bench.proofs.Settling.{reads_whole, settled_file, settled_value, whole_answer}
 use Rattle.machine_bench.proofs.bench.BenchMachine.file_read.Goals as goal
 
 -- the same of a result that is known
-file_ended : (old last : UndoLog) (path : List ℕ) (result found : Result Whole CallStop) → result ≡ found → FileEnds (told_by old) (told_by last) path (whole_answer result) → FileEnds (told_by old) (told_by last) path (whole_answer found)
-file_ended old last path result found is h = subst (λ (r : Result Whole CallStop). FileEnds (told_by old) (told_by last) path (whole_answer r)) is h
+file_ended : (old last : UndoLog) (path : List ℕ) (result found : Result Whole CallStop) → result ≡ found → FileEnds (past_of_log old) (past_of_log last) path (whole_answer result) → FileEnds (past_of_log old) (past_of_log last) path (whole_answer found)
+file_ended old last path result found is h = subst (λ (r : Result Whole CallStop). FileEnds (past_of_log old) (past_of_log last) path (whole_answer r)) is h
 
-file_found : (log : UndoLog) (path : List ℕ) (limit : ℕ) (result found : Result Whole CallStop) → result ≡ found → IfOk result (WholeFound (file log.world path) limit) → ReadsFile true (file (now (told_by log)) path) limit (whole_answer found)
+file_found : (log : UndoLog) (path : List ℕ) (limit : ℕ) (result found : Result Whole CallStop) → result ≡ found → IfOk result (WholeFound (file log.world path) limit) → ReadsFile true (file (world_now (past_of_log log)) path) limit (whole_answer found)
 file_found log path limit result found is h =
-    subst (λ (w : World). ReadsFile true (file w path) limit (whole_answer found)) (sym (now-past_of log.world log.notes.items))
+    subst (λ (w : World). ReadsFile true (file w path) limit (whole_answer found)) (sym (now-past_of log))
     (subst (λ (r : Result Whole CallStop). ReadsFile true (file log.world path) limit (whole_answer r)) is (reads_whole (file log.world path) limit result h))
 
 pub returns-in-Ok-Bytes-clause-past : goal.returns-in-Ok-Bytes-clause-past

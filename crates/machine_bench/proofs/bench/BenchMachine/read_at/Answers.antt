@@ -12,5 +12,5 @@ returns-clause-past c = λ told.
 
 pub returns-clause-answer : goal.returns-clause-answer
 returns-clause-answer c =
-    subst (λ (w : World). IfOk c.settle.result (ReadSome true (readable w c.args.path.now) c.args.at c.args.into.now c.read-noted.new.into)) (sym (now-past_of c.args.self.now.log.world c.args.self.now.log.notes.items))
+    subst (λ (w : World). IfOk c.settle.result (ReadSome true (readable w c.args.path.now) c.args.at c.args.into.now c.read-noted.new.into)) (sym (now-past_of c.args.self.now.log))
     (settled_value _ _ _ _ _ c.read-noted.result c.settle.result (ReadSome true (readable c.args.self.now.log.world c.args.path.now) c.args.at c.args.into.now c.read-noted.new.into) c.settle.ensures.answer c.read-noted.ensures.read)

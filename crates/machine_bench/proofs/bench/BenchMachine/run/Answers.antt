@@ -4,15 +4,15 @@ use Rattle.machine.specs.declared.world.Exit.{Exit}
 use Rattle.machine.specs.declared.calls.CallStop.{CallStop}
 use Rattle.machine.specs.Calls.{RunEnds}
 use Rattle.undo_log.specs.declared.log.UndoLog.{UndoLog}
-use Rattle.undo_log.specs.Logged.{told_by}
+use Rattle.undo_log.specs.Logged.{past_of_log}
 use Rattle.machine_bench.specs.Scripts.{script_for}
 use Rattle.machine_bench.proofs.Scripted.{runs_by}
 use Rattle.machine_bench.proofs.Settling.{run_answer, settled_run}
 use Rattle.machine_bench.proofs.bench.BenchMachine.run.Goals as goal
 
 -- the same of a result that is known
-run_ended : (old last : UndoLog) (child : Child) (result found : Result Exit CallStop) → result ≡ found → RunEnds (told_by old) (told_by last) child (run_answer result) → RunEnds (told_by old) (told_by last) child (run_answer found)
-run_ended old last child result found is h = subst (λ (r : Result Exit CallStop). RunEnds (told_by old) (told_by last) child (run_answer r)) is h
+run_ended : (old last : UndoLog) (child : Child) (result found : Result Exit CallStop) → result ≡ found → RunEnds (past_of_log old) (past_of_log last) child (run_answer result) → RunEnds (past_of_log old) (past_of_log last) child (run_answer found)
+run_ended old last child result found is h = subst (λ (r : Result Exit CallStop). RunEnds (past_of_log old) (past_of_log last) child (run_answer r)) is h
 
 pub returns-in-Ok-clause-past : goal.returns-in-Ok-clause-past
 returns-in-Ok-clause-past c = λ told.

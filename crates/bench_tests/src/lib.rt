@@ -1,0 +1,11 @@
+//! Tests of the machine in memory, by its public calls alone.
+#![tactic(auto)]
+
+#[cfg(test)]
+mod call_tests;
+#[cfg(test)]
+mod child_tests;
+#[cfg(test)]
+mod setups;
+#[cfg(test)]
+mod stop_tests;

@@ -1,0 +1,156 @@
+-- Each command, and what comes before it.
+use Rattle.std.proofs.Common.{◌≡◌, ◌≤◌, ℕ, Bool, List, Option, Some, None, Result, Ok, Err, IsTrue, IfOk, refl, sym, ◌∙◌, ap, subst, arith}
+use Rattle.updater_text.specs.declared.stops.NoMemory.{NoMemory}
+use Rattle.machine.specs.declared.stops.Fault.{Fault}
+use Rattle.machine.specs.declared.stops.Stop.{Stop}
+use Rattle.machine.specs.declared.stops.Stop.TheVariants as stop
+use Rattle.machine.specs.declared.world.World.{World}
+use Rattle.machine.specs.Past.{Past, Always, Fails, moments_since, world_now}
+use Rattle.machine.specs.Frames.{Unchanged}
+use Rattle.machine.proofs.Moments.{always_now, always_weaker}
+use Rattle.machine.proofs.Joins.{now_unchanged}
+use Rattle.rauc_words.specs.declared.asked.Asked.{Asked}
+use Rattle.rauc_words.specs.declared.asked.Asked.TheVariants as asked
+use Rattle.rauc_words.specs.declared.asked.Command.{Command}
+use Rattle.rauc_words.specs.declared.asked.Command.TheVariants.{WriteSlot}
+use Rattle.rauc_words.specs.declared.asked.Run.{Run}
+use Rattle.rauc_words.specs.Table.{conf_path}
+use Rattle.system_conf.specs.Configuration.{Configuration}
+use Rattle.system_conf.specs.declared.slot.Slot.{Slot}
+use Rattle.slot_writer.specs.declared.refusal.SlotRefusal.{SlotRefusal}
+use Rattle.slot_writer.specs.declared.refusal.SlotWritten.{SlotWritten}
+use Rattle.slot_writer.specs.Slots.{PutKept, Puts, slot_answer, slot_device}
+use Rattle.rauc_cli.specs.declared.conf.NoSystem.{NoSystem}
+use Rattle.rauc_cli.specs.declared.conf.BadConf.{BadConf}
+use Rattle.rauc_cli.specs.declared.outcome.Outcome.{Outcome}
+use Rattle.rauc_cli.specs.declared.outcome.Outcome.TheVariants as end
+use Rattle.rauc_cli.specs.declared.outcome.Report.{Report}
+use Rattle.rauc_cli.specs.Conf.{system_at}
+use Rattle.rauc_cli.specs.Lines.{no_system_report, outside}
+use Rattle.rauc_cli.specs.Plans.{Plan, Nothing, AtTheEnd, OnTheWay, asked_plan, command_plan, fault_in, report_of, slot_plan, system_plan, to_report}
+use Rattle.rauc_cli.specs.Ends.{CommandTexts, Ended, HasTexts, OutcomeCounted, RunTexts, SaysSlot, SlotTexts}
+use Rattle.rauc_cli.proofs.Ending.{IsQuiet, ended_after, ended_failed, ended_here, ended_memory, quiet_report, report_quiet, some_none, ways_unchanged}
+
+-- ---- write-slot
+
+pub quiet_slot : (slots : List Slot) (slot image : List ℕ) (answer : Result SlotWritten SlotRefusal) → IsQuiet (slot_plan slots slot image answer)
+quiet_slot slots slot image (Ok written) = quiet_report _ _
+quiet_slot slots slot image (Err refusal) = quiet_report _ _
+
+slot_way : (slots : List Slot) (slot image : List ℕ) (answer : Result SlotWritten SlotRefusal) (w u : World) → PutKept (slot_device slots slot) answer w u → OnTheWay (slot_plan slots slot image answer).effect w u
+slot_way slots slot image (Ok written) w u h = h
+slot_way slots slot image (Err refusal) w u h = h
+
+module _ (t : Bool) (slots : List Slot) (slot image : List ℕ) (answer : Result SlotWritten SlotRefusal) (a b : Past) where
+  abbrev aim : Plan
+  aim = slot_plan slots slot image answer
+
+  abbrev way : World → Type 0
+  way = PutKept (slot_device slots slot) answer (world_now a)
+
+  keeps : (IsTrue t → Always a b way) → IsTrue t → Always a b (OnTheWay aim.effect (world_now a))
+  keeps kept told = always_weaker a b way (OnTheWay aim.effect (world_now a)) (λ u h. slot_way slots slot image answer (world_now a) u h) (kept told)
+
+  fault : (kind : Option Fault) → Fails t a b kind → IsTrue t → fault_in aim a b ≡ kind
+  fault kind fails told = (quiet_slot slots slot image answer).passes (moments_since a b) ∙ fails.first told
+
+  pub ended_slot : (written : Result SlotWritten (Stop SlotRefusal)) (result : Result Report NoMemory) → Puts t image (slot_device slots slot) answer a b written → SaysSlot slots slot image written result → Ended t (slot_plan slots slot image answer) a b result
+  ended_slot (Ok written) (Ok report) puts says = record {
+    on_the_way = keeps puts.kept;
+    reported = λ told. says ∙ sym (ap (λ (r : Result SlotWritten SlotRefusal). report_of (slot_plan slots slot image r) None) (puts.answers told)) ∙ sym (ap (λ (o : Option Fault). report_of aim o) (fault None puts.fails told));
+    at_the_end = λ told none. subst (λ (r : Result SlotWritten SlotRefusal). AtTheEnd (slot_plan slots slot image r).effect (world_now a) (world_now b)) (sym (puts.answers told)) (puts.left told);
+  }
+  ended_slot (Err (stop.Refused refusal)) (Ok report) puts says = record {
+    on_the_way = keeps puts.kept;
+    reported = λ told. says ∙ sym (ap (λ (r : Result SlotWritten SlotRefusal). report_of (slot_plan slots slot image r) None) (puts.answers told)) ∙ sym (ap (λ (o : Option Fault). report_of aim o) (fault None puts.fails told));
+    at_the_end = λ told none. subst (λ (r : Result SlotWritten SlotRefusal). AtTheEnd (slot_plan slots slot image r).effect (world_now a) (world_now b)) (sym (puts.answers told)) (subst (λ (r : Result SlotWritten SlotRefusal). PutKept (slot_device slots slot) r (world_now a) (world_now b)) (puts.answers told) (always_now a b way (puts.kept told)));
+  }
+  ended_slot (Err (stop.Outside kind)) (Ok report) puts says = record {
+    on_the_way = keeps puts.kept;
+    reported = λ told. says ∙ sym (report_quiet aim kind (quiet_slot slots slot image answer)) ∙ sym (ap (λ (o : Option Fault). report_of aim o) (fault (Some kind) puts.fails told));
+    at_the_end = λ told none. absurd (some_none kind (sym (fault (Some kind) puts.fails told) ∙ none));
+  }
+  ended_slot (Err stop.NoMemory) (Ok report) puts says = absurd says
+  ended_slot written (Err memory) puts says = ended_memory t aim a b memory (keeps puts.kept)
+
+-- ---- each command
+
+quiet_command : (old new : Past) (system : Configuration) (given : Option (List ℕ)) (command : Command) → IsQuiet (command_plan old new system given command)
+quiet_command old new system given (WriteSlot slot image) = quiet_slot system.slots slot image (slot_answer system.slots given slot image (world_now old))
+
+quiet_system : (old new : Past) (run : Run) (found : Result Configuration NoSystem) → IsQuiet (system_plan old new run found)
+quiet_system old new run (Ok system) = quiet_command old new system run.place.given run.command
+quiet_system old new run (Err refusal) = quiet_report _ _
+
+pub quiet_asked : (old new : Past) (asked : Option Asked) → IsQuiet (asked_plan old new asked)
+quiet_asked old new (Some (asked.Run run)) = quiet_system old new run (system_at (world_now old) (conf_path run.place))
+quiet_asked old new (Some asked.Help) = quiet_report _ _
+quiet_asked old new None = quiet_report _ _
+
+-- where nothing was changed before it began, a command's plan is that of the start
+command_later : (a b c : Past) (system : Configuration) (given : Option (List ℕ)) (command : Command) → world_now b ≡ world_now a → command_plan b c system given command ≡ command_plan a c system given command
+command_later a b c system given (WriteSlot slot image) same =
+    ap (λ (w : World). slot_plan system.slots slot image (slot_answer system.slots given slot image w)) same
+
+-- ---- the configuration of a command
+
+module _ (t : Bool) (run : Run) (path : List ℕ) (is : path ≡ conf_path run.place) (a b : Past) (unchanged : Unchanged t a b) where
+  abbrev goal : Past → Plan
+  goal c = asked_plan a c (Some (asked.Run run))
+
+  found : (c : Past) (o : Result Configuration NoSystem) → system_at (world_now a) path ≡ o → system_plan a c run o ≡ goal c
+  found c o e = ap (λ (r : Result Configuration NoSystem). system_plan a c run r) (sym e ∙ ap (λ (p : List ℕ). system_at (world_now a) p) is)
+
+  pub asked_system : (c : Past) (system : Configuration) (result : Result Report NoMemory) → (IsTrue t → system_at (world_now a) path ≡ Ok system) → Fails t a b None → Ended t (command_plan b c system run.place.given run.command) b c result → Ended t (asked_plan a c (Some (asked.Run run))) a c result
+  asked_system c system result loads fine rest =
+      ended_after t (command_plan b c system run.place.given run.command) (goal c) a b c result unchanged fine
+      (λ told. command_later a b c system run.place.given run.command (now_unchanged t a b unchanged told) ∙ found c (Ok system) (loads told))
+      rest
+
+  pub asked_refusal : (refusal : NoSystem) (result : Result Report NoMemory) → (IsTrue t → system_at (world_now a) path ≡ Err refusal) → Fails t a b None → IfOk result (λ r. r ≡ no_system_report path refusal) → Ended t (asked_plan a b (Some (asked.Run run))) a b result
+  asked_refusal refusal result loads fine says =
+      ended_after t (to_report (no_system_report (conf_path run.place) refusal) Nothing) (goal b) a b b result unchanged fine
+      (λ told. found b (Err refusal) (loads told))
+      (ended_here t (no_system_report (conf_path run.place) refusal) b result (subst (λ (p : List ℕ). IfOk result (λ r. r ≡ no_system_report p refusal)) is says))
+
+  pub asked_fault : (kind : Fault) (result : Result Report NoMemory) → Fails t a b (Some kind) → IfOk result (λ r. r ≡ outside kind) → Ended t (asked_plan a b (Some (asked.Run run))) a b result
+  asked_fault kind result fails says = ended_failed t (goal b) a b kind result (quiet_asked a b (Some (asked.Run run))) unchanged fails says
+
+  pub asked_memory : (memory : NoMemory) → Ended t (asked_plan a b (Some (asked.Run run))) a b (Err memory)
+  asked_memory memory = ended_memory t (goal b) a b memory (ways_unchanged t (goal b).effect a b unchanged)
+
+-- ---- its texts and counts
+
+no_conf : (command : Command) (r : Report) → CommandTexts command r → r.outcome ≡ end.NoConfig → ⊥
+no_conf (WriteSlot slot image) r h e = subst (λ (o : Outcome). SlotTexts slot image o r) e h
+
+no_bad_conf : (command : Command) (r : Report) (refusal : BadConf) → CommandTexts command r → r.outcome ≡ end.BadConfig refusal → ⊥
+no_bad_conf (WriteSlot slot image) r refusal h e = subst (λ (o : Outcome). SlotTexts slot image o r) e h
+
+outside_text : (command : Command) (r : Report) (kind : Fault) → CommandTexts command r → r.outcome ≡ end.Outside kind → r ≡ outside kind
+outside_text (WriteSlot slot image) r kind h e = subst (λ (o : Outcome). SlotTexts slot image o r) e h
+
+run_texts : (run : Run) (r : Report) (o : Outcome) → r.outcome ≡ o → CommandTexts run.command r → RunTexts run o r
+run_texts run r end.Done e h = h
+run_texts run r end.Help e h = h
+run_texts run r end.Usage e h = h
+run_texts run r end.NoConfig e h = absurd (no_conf run.command r h e)
+run_texts run r (end.BadConfig refusal) e h = absurd (no_bad_conf run.command r refusal h e)
+run_texts run r (end.Slot refusal) e h = h
+run_texts run r (end.Outside kind) e h = outside_text run.command r kind h e
+run_texts run r end.NoMemory e h = h
+
+pub texts_command : (run : Run) (result : Result Report NoMemory) → IfOk result (CommandTexts run.command) → IfOk result (HasTexts (Some (asked.Run run)))
+texts_command run (Ok r) h = run_texts run r r.outcome refl h
+texts_command run (Err memory) h = tt
+
+pub counted_later : (f g k m n p : ℕ) (o : Outcome) → f ≤ g → m ≤ n → OutcomeCounted g k n p o → OutcomeCounted f k m p o
+counted_later f g k m n p end.Done fs ms h = (omega (arith, fs, h.0), omega (arith, ms, h.1))
+counted_later f g k m n p end.Help fs ms h = (omega (arith, fs, h.0), omega (arith, ms, h.1))
+counted_later f g k m n p end.Usage fs ms h = (omega (arith, fs, h.0), omega (arith, ms, h.1))
+counted_later f g k m n p end.NoConfig fs ms h = (omega (arith, fs, h.0), omega (arith, ms, h.1))
+counted_later f g k m n p (end.BadConfig refusal) fs ms h = (omega (arith, fs, h.0), omega (arith, ms, h.1))
+counted_later f g k m n p (end.Slot refusal) fs ms h = (omega (arith, fs, h.0), omega (arith, ms, h.1))
+counted_later f g k m n p (end.Outside kind) fs ms h =
+    ((omega (arith, fs, h.0.0), λ same. omega (arith, fs, h.0.0, h.0.1 (omega (arith, fs, h.0.0, same)))), omega (arith, ms, h.1))
+counted_later f g k m n p end.NoMemory fs ms h = (omega (arith, fs, h.0), omega (arith, ms, h.1))

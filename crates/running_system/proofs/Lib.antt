@@ -1,0 +1,3 @@
+pub mod SlotDevices
+pub mod SlotsKept
+pub mod StateLookups

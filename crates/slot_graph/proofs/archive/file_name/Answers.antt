@@ -1,0 +1,14 @@
+use Rattle.std.proofs.Common.{◌==◌, ◌∙◌, not, reverse, rules, tests}
+use Rattle.std.proofs.lemmas.List.{take_rest}
+use Rattle.std.proofs.lemmas.List.Folds.{length-prefix_len}
+use Rattle.std.proofs.lemmas.Iterator.Adapters.{YieldsList-from_rev_slice}
+use Rattle.std.proofs.lemmas.Iterator.Consumers.{count_from_yields_List}
+use Rattle.std.proofs.lemmas.Iterator.Search.{YieldsList-from_take_while}
+use Rattle.slot_graph.proofs.archive.file_name.Goals as goal
+
+pub returns : goal.returns
+returns c =
+    let count = count_from_yields_List c.take_while.result _ c.count-length.ensures.ran
+    (YieldsList-from_take_while _ (λ b. not (b == 47)) (YieldsList-from_rev_slice c.args.path.now (cc)) c.take_while.ensures.closure c.take_while.ensures.done (λ x b q k. search (rules, tests)))
+    ∙ length-prefix_len (λ b. not (b == 47)) (reverse c.args.path.now) in
+    rw (take_rest, count)

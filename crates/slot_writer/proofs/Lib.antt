@@ -1,0 +1,4 @@
+pub mod Checking
+pub mod Putting
+pub mod Sparing
+pub mod Stopping

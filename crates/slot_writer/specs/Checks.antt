@@ -1,0 +1,62 @@
+-- Why an image is not written to a slot, by what the slot is, what runs and what is mounted.
+use Rattle.std.specs.Prelude.{ℕ, Bool, true, false, IsTrue, List, if◌then◌else◌, Option, Some, None, Result, Ok, Err, slice_get, option_and_then}
+use Rattle.machine.specs.declared.stops.Stop.{Stop}
+use Rattle.machine.specs.declared.world.World.{World}
+use Rattle.machine.specs.Past.{Past, Fails}
+use Rattle.machine.specs.Frames.{Unchanged}
+use Rattle.machine.specs.Stops.{Settles, stop_fault}
+use Rattle.conf_forms.specs.Lists.{or_else}
+use Rattle.system_conf.specs.declared.slot.Slot.{Slot}
+use Rattle.system_conf.specs.declared.slot.SlotKind.{SlotKind}
+use Rattle.system_conf.specs.declared.slot.SlotKind.TheVariants.{Unwritten}
+use Rattle.slot_graph.specs.declared.state.Booted.{Booted}
+use Rattle.slot_graph.specs.declared.state.Booted.TheVariants as booted
+use Rattle.slot_graph.specs.declared.mounted.Mount.{Mount}
+use Rattle.slot_graph.specs.Archives.{is_archive}
+use Rattle.slot_graph.specs.Booted.{state_of}
+use Rattle.running_system.specs.Running.{is_in_use, is_mounted, what_is_mounted, what_runs}
+use Rattle.slot_writer.specs.declared.refusal.SlotRefusal.{SlotRefusal}
+use Rattle.slot_writer.specs.declared.refusal.SlotRefusal.TheVariants.{BootedUnknown, Busy, ReadOnly, ArchiveImage, WrongType, MountsUnread, Mounted}
+
+-- what is booted is not known, or the slot at the place is in use
+abbrev pub use_refusal : List Slot → Booted → ℕ → Option SlotRefusal
+use_refusal slots booted.Unknown at = Some BootedUnknown
+use_refusal slots booted at = if is_in_use (state_of slots booted at) then Some (Busy at) else None
+
+-- a type that is known and not written to
+abbrev pub is_unwritten : SlotKind → Bool
+is_unwritten (Unwritten word) = true
+is_unwritten kind = false
+
+-- whatever stands on the machine: the slot is read-only, the image an archive, or the slot's type is not written to
+abbrev pub kind_refusal : ℕ → Slot → List ℕ → Option SlotRefusal
+kind_refusal at slot image =
+    if slot.readonly then Some (ReadOnly at)
+    else (if is_archive image then Some (ArchiveImage image)
+    else (if is_unwritten slot.kind then Some (WrongType at) else None))
+
+-- the mounts cannot be read, or the slot's device is one of them, whether or not the slot may be mounted
+abbrev pub mount_refusal : ℕ → Slot → Option (List Mount) → Option SlotRefusal
+mount_refusal at slot None = Some MountsUnread
+mount_refusal at slot (Some mounts) = if is_mounted mounts slot.device then Some (Mounted at) else None
+
+-- the first of these that holds of the slot at a place
+abbrev pub refusal_of : List Slot → Option (List ℕ) → ℕ → Slot → List ℕ → World → Option SlotRefusal
+refusal_of slots given at slot image w =
+    or_else (use_refusal slots (what_runs slots given w) at)
+    (or_else (kind_refusal at slot image)
+    (mount_refusal at slot (what_is_mounted w)))
+
+abbrev pub refusal_at : List Slot → Option (List ℕ) → ℕ → List ℕ → World → Option SlotRefusal
+refusal_at slots given at image w = option_and_then (λ slot. refusal_of slots given at slot image w) (slice_get slots at)
+
+-- nothing, unless this refusal holds
+abbrev pub pass_unless : Option SlotRefusal → Result (Unit {0}) SlotRefusal
+pass_unless None = Ok tt
+pass_unless (Some refusal) = Err refusal
+
+-- where told: nothing was changed, and this refusal is answered where it holds, unless a call failed
+pub record SlotCheck (tells : Bool) (refusal : Option SlotRefusal) (old new : Past) (result : Result (Unit {0}) (Stop SlotRefusal)) : Type 0 where
+  pub unchanged : Unchanged tells old new
+  pub answers : IsTrue tells → Settles result (pass_unless refusal)
+  pub fails : Fails tells old new (stop_fault result)

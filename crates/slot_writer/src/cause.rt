@@ -1,0 +1,67 @@
+ghost use Rattle.std.specs.Prelude.{◌≡◌, ◌++◌, IfOk, codes};
+ghost use Rattle.slot_writer.specs.Causes.{name_at, slot_cause};
+
+use crate::SlotRefusal;
+use raw_writer::put_cause;
+use std::alloc::Global;
+use system_conf::{Slot, System};
+use updater_text::{NoMemory, Text};
+
+// The name of the slot at this place.
+fn name_at(slots: &[Slot], at: usize) -> &str
+    ensures { result.now ≡ name_at slots.now at }
+{
+    match slots.get(at) {
+        Some(slot) => slot.name.as_str(),
+        None => "",
+    }
+}
+
+// What is the matter with the slot at this place.
+fn matter_at(alloc: Global, slots: &[Slot], at: usize, matter: &str) -> Result<Text, NoMemory>
+    ensures { IfOk result (λ t. t ≡ codes "slot " ++ (name_at slots.now at ++ matter.now)) }
+{
+    let name = name_at(slots, at);
+    let cause = format!(in alloc; "slot {name}{matter}")?;
+    Ok(Text::from_string(cause))
+}
+
+fn no_slot_cause(alloc: Global, name: &Text) -> Result<Text, NoMemory>
+    ensures { IfOk result (λ t. t ≡ codes "no such slot: " ++ name.now) }
+{
+    let name = name.as_str();
+    let cause = format!(in alloc; "no such slot: {name}")?;
+    Ok(Text::from_string(cause))
+}
+
+fn archive_cause(alloc: Global, image: &Text) -> Result<Text, NoMemory>
+    ensures { IfOk result (λ t. t ≡ codes "image " ++ (image.now ++ codes " is an archive")) }
+{
+    let image = image.as_str();
+    let cause = format!(in alloc; "image {image} is an archive")?;
+    Ok(Text::from_string(cause))
+}
+
+/// Why an image is not written, in one line without its end: slots are named by their places in the
+/// configuration, and `image` is the path as the user gave it. The only error is out of memory.
+pub fn slot_cause(
+    alloc: Global,
+    system: &System,
+    image: &str,
+    refusal: &SlotRefusal,
+) -> Result<Text, NoMemory>
+    ensures { IfOk result (λ t. t ≡ slot_cause system.now.slots image.now refusal.now) }
+{
+    let slots = system.slots.as_slice();
+    match refusal {
+        SlotRefusal::NoSuchSlot { text } => no_slot_cause(alloc, text),
+        SlotRefusal::BootedUnknown => Text::new(alloc, "booted slot is not known"),
+        SlotRefusal::Busy { slot } => matter_at(alloc, slots, *slot, " is in use"),
+        SlotRefusal::ReadOnly { slot } => matter_at(alloc, slots, *slot, " is readonly"),
+        SlotRefusal::ArchiveImage { image } => archive_cause(alloc, image),
+        SlotRefusal::WrongType { slot } => matter_at(alloc, slots, *slot, " cannot be written"),
+        SlotRefusal::MountsUnread => Text::new(alloc, "mounts unreadable"),
+        SlotRefusal::Mounted { slot } => matter_at(alloc, slots, *slot, " is mounted"),
+        SlotRefusal::Image(refusal) => put_cause(alloc, image, refusal),
+    }
+}

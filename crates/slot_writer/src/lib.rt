@@ -1,0 +1,11 @@
+//! Writing one image into one slot: why that is refused, and the write itself.
+#![tactic(auto)]
+
+mod cause;
+mod checks;
+mod refusal;
+mod write;
+
+pub use cause::slot_cause;
+pub use refusal::{SlotRefusal, SlotWritten};
+pub use write::write_slot;

@@ -1,8 +1,0 @@
-use Rattle.std.proofs.Common.{◌≡◌, take, None}
-use Rattle.std.specs.List.{enumerate_from}
-use Rattle.conf_forms.specs.Lists.{first_of}
-use Rattle.system_conf.specs.Refusals.{twin_of}
-use Rattle.system_conf.proofs.shared.first_twin.Given as goal
-
-abbrev pub invariant-loop-at : goal.invariant-loop-at
-invariant-loop-at l = first_of (twin_of l.what l.slots) (take l.at (enumerate_from 0 l.slots)) ≡ None
