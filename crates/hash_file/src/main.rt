@@ -2,8 +2,8 @@
 //! an image has to do, for the benchmark.
 //!
 //! Use: `hash_file FILE`. The exit status is 0, or 1 with a line on standard error where no file is
-//! named, the words are not UTF-8, the file cannot be read, the digest cannot be printed, or memory is
-//! wanting.
+//! named, the words are not UTF-8, the file cannot be read, the digest cannot be printed, or it is out
+//! of memory.
 #![tactic(auto)]
 
 ghost use Rattle.std.specs.Prelude.{◌<◌, ◌≡◌, length, IfOk, IfSome};
