@@ -22,135 +22,128 @@ parent=appfs.0
 device=/dev/e
 ";
 
-fn system(alloc: Global) -> Result<System, Fail> {
+// Command lines of the kernel, the name that is given, and what is booted then.
+static BOOTS: [(&[u8], Option<&str>, Booted); 18] = [
+    (b"", None, Booted::Unknown),
+    (b"quiet rauc.slot=A", None, Booted::Slot(0)),
+    (b"rauc.slot=rescue.0\n", None, Booted::Slot(4)),
+    (b"rauc.slot=rootfs.0", None, Booted::Slot(1)),
+    (b"rauc.slot=appfs.0", None, Booted::Slot(0)),
+    (b"rauc.slot=B root=/dev/a", None, Booted::Unknown),
+    (b"rauc.slot=A rauc.slot=rescue.0", None, Booted::Slot(0)),
+    (b"xrauc.slot=A", None, Booted::Unknown),
+    (b"rauc.slot=", None, Booted::Unknown),
+    (b"ro\troot=/dev/d\n", None, Booted::Slot(0)),
+    (b"root=/dev/z root=/dev/a", None, Booted::Unknown),
+    (b"root=UUID=1 x", None, Booted::Unknown),
+    (b"rauc.slot=A rauc.external", None, Booted::External),
+    (b"rauc.external=1", None, Booted::Unknown),
+    (
+        b"rauc.external rauc.slot=rescue.0",
+        Some("A"),
+        Booted::Slot(0),
+    ),
+    (
+        b"rauc.external rauc.slot=rescue.0",
+        Some("rootfs.0"),
+        Booted::Slot(1),
+    ),
+    (
+        b"rauc.external rauc.slot=rescue.0",
+        Some("data.0"),
+        Booted::Slot(0),
+    ),
+    (
+        b"rauc.external rauc.slot=rescue.0",
+        Some("B"),
+        Booted::Unknown,
+    ),
+];
+
+// The states of the slots where the first one is booted.
+static STATES: [SlotState; 5] = [
+    SlotState::Booted,
+    SlotState::Inactive,
+    SlotState::Active,
+    SlotState::Active,
+    SlotState::Inactive,
+];
+
+static IDLE: [SlotState; 5] = [SlotState::Inactive; 5];
+
+fn has_states(alloc: Global, system: &System, booted: Booted, wanted: &[SlotState]) -> bool {
+    match states(alloc, system, booted) {
+        Ok(seen) => seen.as_slice() == wanted,
+        Err(_) => false,
+    }
+}
+
+// Whether the slot at a place is there, and lies under that root.
+fn has_root(system: &System, slot: usize, root: usize) -> bool {
+    slot < system.slots.as_slice().len() && root_of(system, slot) == root
+}
+
+fn tells_roots(system: &System) -> bool {
+    has_root(system, 3, 0) && has_root(system, 2, 0) && has_root(system, 4, 4)
+}
+
+#[test]
+fn tells_what_runs(rt: HostRuntime) -> Result<(), Fail> {
+    let alloc = rt.alloc();
     let file = keyfile::read(alloc, SLOTS)?;
-    Ok(read_system(alloc, &file)?)
-}
-
-fn booted_by(alloc: Global, cmdline: &[u8], given: Option<&str>) -> Result<Booted, Fail> {
-    Ok(booted(&system(alloc)?, cmdline, given))
-}
-
-#[test]
-fn reads_command_lines(rt: HostRuntime) -> Result<(), Fail> {
-    let rows: [(&[u8], Booted); 14] = [
-        (b"", Booted::Unknown),
-        (b"quiet rauc.slot=A", Booted::Slot(0)),
-        (b"rauc.slot=rescue.0\n", Booted::Slot(4)),
-        (b"rauc.slot=rootfs.0", Booted::Slot(1)),
-        (b"rauc.slot=appfs.0", Booted::Slot(0)),
-        (b"rauc.slot=B root=/dev/a", Booted::Unknown),
-        (b"rauc.slot=A rauc.slot=rescue.0", Booted::Slot(0)),
-        (b"xrauc.slot=A", Booted::Unknown),
-        (b"rauc.slot=", Booted::Unknown),
-        (b"ro\troot=/dev/d\n", Booted::Slot(0)),
-        (b"root=/dev/z root=/dev/a", Booted::Unknown),
-        (b"root=UUID=1 x", Booted::Unknown),
-        (b"rauc.slot=A rauc.external", Booted::External),
-        (b"rauc.external=1", Booted::Unknown),
-    ];
-    for (cmdline, wanted) in rows {
-        assert_eq!(rt; booted_by(rt.alloc(), cmdline, None)?, wanted);
+    let system = read_system(alloc, &file)?;
+    for (row, (cmdline, given, wanted)) in BOOTS.iter().enumerate() {
+        assert!(rt;
+            booted(&system, cmdline, *given) == *wanted,
+            "row {row} of what is booted"
+        );
     }
+    assert!(rt; has_states(alloc, &system, Booted::Slot(0), &STATES));
+    assert!(rt; has_states(alloc, &system, Booted::External, &IDLE));
+    assert!(rt; tells_roots(&system));
     Ok(())
 }
 
-#[test]
-fn takes_a_given_name(rt: HostRuntime) -> Result<(), Fail> {
-    let rows = [
-        ("A", Booted::Slot(0)),
-        ("rootfs.0", Booted::Slot(1)),
-        ("data.0", Booted::Slot(0)),
-        ("B", Booted::Unknown),
-    ];
-    for (name, wanted) in rows {
-        let got = booted_by(rt.alloc(), b"rauc.external rauc.slot=rescue.0", Some(name))?;
-        assert_eq!(rt; got, wanted);
-    }
-    Ok(())
-}
-
-// The states of the slots, by what is booted.
-fn states_by(alloc: Global, booted: Booted) -> Result<Vec<SlotState>, Fail> {
-    Ok(states(alloc, &system(alloc)?, booted)?)
-}
-
-#[test]
-fn tells_states(rt: HostRuntime) -> Result<(), Fail> {
-    let alloc = rt.alloc();
-    let seen = states_by(alloc, Booted::Slot(0))?;
-    let wanted = [
-        SlotState::Booted,
-        SlotState::Inactive,
-        SlotState::Active,
-        SlotState::Active,
-        SlotState::Inactive,
-    ];
-    let none = states_by(alloc, Booted::External)?;
-    let idle = none.len() == 5 && none.iter().all(|state| *state == SlotState::Inactive);
-    assert!(rt; idle && seen.as_slice() == wanted.as_slice());
-    Ok(())
-}
-
-// The root of the slot at a place, where it is one of the five.
-fn root_at(alloc: Global, slot: usize) -> Result<Option<usize>, Fail> {
-    let system = system(alloc)?;
-    if slot < system.slots.as_slice().len() {
-        Ok(Some(root_of(&system, slot)))
-    } else {
-        Ok(None)
-    }
-}
-
-#[test]
-fn finds_roots(rt: HostRuntime) -> Result<(), Fail> {
-    let alloc = rt.alloc();
-    for (slot, wanted) in [(3, 0), (2, 0), (4, 4)] {
-        assert_eq!(rt; root_at(alloc, slot)?, Some(wanted));
-    }
-    Ok(())
-}
-
-// The device and the mount point of the only mount of a text.
-fn only_mount(alloc: Global, text: &[u8]) -> Result<Option<(Vec<u8>, Vec<u8>)>, Fail> {
-    let mut mounts = mounts(alloc, text)?;
-    match (mounts.pop(), mounts.pop()) {
-        (Some(mount), None) => Ok(Some((mount.device.into_vec(), mount.point.into_vec()))),
-        _ => Ok(None),
-    }
-}
+// Texts with one mount, and its device and its mount point.
+static MOUNTS: [(&[u8], &[u8], &[u8]); 4] = [
+    (b"/dev/b /a\\040b ext4", b"/dev/b", b"/a b"),
+    (b"x\n\n \t/dev/b\t /m \n", b"/dev/b", b"/m"),
+    (b"\\011\\012 \\134040 rw", b"\t\n", b"\\040"),
+    (b"a\\04 \\041\\", b"a\\04", b"\\041\\"),
+];
 
 // Whether a text has one mount, of this device at this point.
-fn is_mounted(alloc: Global, text: &[u8], device: &[u8], point: &[u8]) -> Result<bool, Fail> {
-    match only_mount(alloc, text)? {
-        Some(mount) => Ok(mount.0.as_slice() == device && mount.1.as_slice() == point),
-        None => Ok(false),
+fn is_mounted(alloc: Global, text: &[u8], device: &[u8], point: &[u8]) -> bool {
+    match mounts(alloc, text) {
+        Ok(found) => match found.as_slice() {
+            [mount] => mount.device.as_slice() == device && mount.point.as_slice() == point,
+            _ => false,
+        },
+        Err(_) => false,
     }
 }
 
+fn has_mounts(alloc: Global, text: &[u8], count: usize) -> bool {
+    mounts(alloc, text).is_ok_and(|found| found.len() == count)
+}
+
 #[test]
-fn reads_mounts(rt: HostRuntime) -> Result<(), Fail> {
+fn reads_mounts(rt: HostRuntime) {
     let alloc = rt.alloc();
-    let rows: [(&[u8], &[u8], &[u8]); 4] = [
-        (b"/dev/b /a\\040b ext4", b"/dev/b", b"/a b"),
-        (b"x\n\n \t/dev/b\t /m \n", b"/dev/b", b"/m"),
-        (b"\\011\\012 \\134040 rw", b"\t\n", b"\\040"),
-        (b"a\\04 \\041\\", b"a\\04", b"\\041\\"),
-    ];
-    let mut read = mounts(alloc, b"a b\nc d 0 0\ne")?.len() == 2 && mounts(alloc, b"")?.is_empty();
-    for (text, device, point) in rows {
-        read &= is_mounted(alloc, text, device, point)?;
+    assert!(rt; has_mounts(alloc, b"a b\nc d 0 0\ne", 2) && has_mounts(alloc, b"", 0));
+    for (row, (text, device, point)) in MOUNTS.iter().enumerate() {
+        assert!(rt;
+            is_mounted(alloc, text, device, point),
+            "row {row} of the mounts"
+        );
     }
-    assert!(rt; read);
-    Ok(())
 }
 
 #[test]
-fn knows_archives(rt: HostRuntime) -> Result<(), Fail> {
+fn knows_archives(rt: HostRuntime) {
     let archives = ["/a.tar", "b.tar.xz", "/d/c.catar", ".tar", "x.tar.1"];
     let others = ["/d.tar/image", "tar", "a.tars", "a.catar.xz", "/r.img"];
     let told = archives.iter().all(|path| is_archive(path))
         && !others.iter().any(|path| is_archive(path));
     assert!(rt; told);
-    Ok(())
 }
