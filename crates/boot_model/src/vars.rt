@@ -48,8 +48,8 @@ impl Vars {
         Some(value.as_str())
     }
 
-    /// Gives the variable with this name the value, whether it was there or not. Where memory is
-    /// wanting, the variables stay as they are.
+    /// Gives the variable with this name the value, whether it was there or not. Out of memory, it
+    /// leaves the variables as they are.
     pub fn set(&mut self, name: &str, value: &str) -> Result<(), NoMemory>
         ensures ok { OnOk result (self.new ≡ map.insert self.old name.now value.now) }
         ensures err { OnErr result (self.new ≡ self.old) }

@@ -25,7 +25,7 @@ after_line groups None number (entry key value) = Err (fault.KeyBeforeGroup numb
 after_line groups (Some at) number (entry key value) = after_entry groups at number key (unescape value)
 after_line groups at number bad = Err (fault.BadLine number)
 
--- a call left these groups and answered the place, or gave the fault, or memory was wanting
+-- a call left these groups and answered the place, or gave the fault, or out of memory
 abbrev pub GivesState : Result (Option ℕ) (Lack KeyFault) → List Group → Result State KeyFault → Type 0
 GivesState (Ok at) new wanted = wanted ≡ Ok (new, at)
 GivesState (Err (lack.Refused refusal)) new wanted = wanted ≡ Err refusal

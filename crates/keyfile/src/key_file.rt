@@ -96,7 +96,7 @@ impl KeyFile {
     }
 
     /// Gives a key of a group a value. A new group or key goes last, and a present key keeps its place.
-    /// Where memory is wanting, the file stays as it is.
+    /// Out of memory, it leaves the file as it is.
     pub fn put(&mut self, group: &str, key: &str, value: &str) -> Result<(), NoMemory>
         requires { IsTrue (may_be_put group.now key.now value.now) }
         ensures ok { OnOk result (self.new ≡ put_in self.old group.now key.now value.now) }

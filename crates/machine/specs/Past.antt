@@ -100,7 +100,7 @@ moments_since old new = drop (length old.moments) new.moments
 abbrev pub Grows : Past → Past → Type 0
 Grows old new = new ≡ with_moments old (moments_since old new)
 
--- u was the world at the begin or after one of these moments, or inside one of their calls
+-- u was the world at the start or after one of these moments, or inside one of their calls
 abbrev pub WorldAmong : World → List Moment → World → Type 0
 WorldAmong w [] u = u ≡ w
 WorldAmong w (m ∷ ms) u = (u ≡ w) ⊎ (Inside m.call w u ⊎ WorldAmong m.after ms u)

@@ -5,7 +5,7 @@ use Rattle.machine.specs.declared.stops.Fault.{Fault}
 use Rattle.machine.specs.declared.stops.Stop.{Stop}
 use Rattle.machine.specs.declared.stops.Stop.TheVariants.{Refused, Outside, NoMemory}
 
--- the answer is this one, unless a call failed or memory was wanting
+-- the answer is this one, unless a call failed or it was out of memory
 abbrev pub Settles : {T R : Type 0} → Result T (Stop R) → Result T R → Type 0
 Settles (Ok x) expected = expected ≡ Ok x
 Settles (Err (Refused r)) expected = expected ≡ Err r

@@ -9,7 +9,7 @@ use crate::{Child, Exit};
 use std::alloc::Global;
 use updater_text::Items;
 
-/// Why a call gave no value: it failed, or memory was wanting and nothing was done.
+/// Why a call gave no value: it failed, or it was out of memory and did nothing.
 #[derive(Clone, Copy, Debug, PartialEq, Eq)]
 pub enum CallStop {
     Failed,
@@ -17,7 +17,7 @@ pub enum CallStop {
 }
 
 /// Why a file was not read: the call failed, the file is longer than asked for (`length` bytes), or
-/// memory was wanting.
+/// out of memory.
 #[derive(Clone, Copy, Debug, PartialEq, Eq)]
 pub enum ReadStop {
     Failed,
@@ -25,7 +25,7 @@ pub enum ReadStop {
     NoMemory,
 }
 
-/// Why a child gave no end: the call failed, or memory was wanting.
+/// Why a child gave no end: the call failed, or it was out of memory and began no child.
 #[derive(Clone, Copy, Debug, PartialEq, Eq)]
 pub enum RunStop {
     Failed,

@@ -16,7 +16,7 @@ pub enum Fault {
 }
 
 /// Why a call over a machine gave no value: a refusal of its own, a machine call that failed, or
-/// want of memory.
+/// out of memory.
 #[derive(Clone, Debug, Drop)]
 pub enum Stop<R> {
     Refused(R),

@@ -16,7 +16,7 @@ use updater_text::{Items, NoMemory, Text};
 
 /// A machine in memory, which tells its world and its past.
 ///
-/// A call takes its memory first: where that is wanting it does nothing, and has no number. The
+/// A call takes its memory first: without it, it does nothing and has no number. The
 /// other calls are numbered from 1. A call fails exactly where its number is named by the setup, or
 /// there is a stop at it or before. It does nothing then, but for a write at the stop whose number is
 /// not named: its range is pending, and its first half is written.

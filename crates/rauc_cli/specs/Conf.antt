@@ -31,7 +31,7 @@ of_file (Err fault) = Err (Key fault)
 abbrev pub conf_of : List ℕ → Result Configuration BadConf
 conf_of bytes = of_file (read_of bytes)
 
--- the call answered by what the text says, unless memory was wanting
+-- the call answered by what the text says, or out of memory
 abbrev pub ReadsConf : Result Configuration BadConf → Result System (Lack BadConf) → Type 0
 ReadsConf meaning (Ok system) = meaning ≡ Ok (system_configuration system)
 ReadsConf meaning (Err (lack.Refused refusal)) = meaning ≡ Err refusal
@@ -50,7 +50,7 @@ system_in (Some bytes) = of_conf (conf_of bytes)
 abbrev pub system_at : World → List ℕ → Result Configuration NoSystem
 system_at w path = system_in (file w path)
 
--- the call answered by what the file says, unless a call failed or memory was wanting
+-- the call answered by what the file says, unless a call failed or it was out of memory
 abbrev pub LoadsSystem : Result Configuration NoSystem → Result System (Stop NoSystem) → Type 0
 LoadsSystem meaning (Ok system) = meaning ≡ Ok (system_configuration system)
 LoadsSystem meaning (Err (stop.Refused refusal)) = meaning ≡ Err refusal

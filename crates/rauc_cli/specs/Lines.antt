@@ -16,7 +16,7 @@ use Rattle.rauc_cli.specs.declared.outcome.Outcome.{Outcome}
 use Rattle.rauc_cli.specs.declared.outcome.Outcome.TheVariants as end
 use Rattle.rauc_cli.specs.declared.outcome.Report.{Report}
 
--- the exit status: 0 done or help, 1 refused, 2 a fault of the outside or not all told, 3 want of memory
+-- the exit status: 0 done or help, 1 refused, 2 a fault of the outside or not all told, 3 out of memory
 abbrev pub status_of : Outcome → Bool → ℕ
 status_of outcome false = 2
 status_of end.Done true = 0

@@ -23,7 +23,7 @@ pub enum Outcome {
     Slot(SlotRefusal),
     /// A call of the machine failed.
     Outside(Fault),
-    /// Memory was wanting.
+    /// Out of memory.
     NoMemory,
 }
 
@@ -44,7 +44,7 @@ pub struct Finish {
 
 impl Finish {
     /// The exit status: 0 where the work was done or help was asked for; 1 for a refusal; 2 where the
-    /// outside failed, also where not all could be told; 3 for want of memory. It takes no memory.
+    /// outside failed, also where not all could be told; 3 out of memory. It takes no memory.
     pub fn status(&self) -> u8
         ensures { result ≡ status_of self.now.outcome self.now.told }
     {

@@ -203,8 +203,7 @@ fn do_effect(
     Ok(())
 }
 
-// Does effects of a child in turn. Where memory is wanting, those that were done are among the
-// changes.
+// Does effects of a child in turn. Out of memory, it leaves those that were done among the changes.
 fn do_effects(
     alloc: Global,
     world: &mut World,

@@ -43,8 +43,8 @@ fn whole_end(found: &Whole) -> NotedEnd
 /// A world, its calls so far with what takes them back, and the boot loader that its past tells.
 ///
 /// A call that `fails` is noted as failed and does nothing, and what it answers means nothing. The only
-/// error is out of memory. A call takes its memory first: where that is wanting, nothing is changed
-/// and nothing noted.
+/// error is out of memory. A call takes its memory first: without it, nothing is changed and nothing
+/// noted.
 #[derive(Drop)]
 pub struct UndoLog {
     pub world: World,

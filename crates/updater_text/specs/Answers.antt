@@ -3,7 +3,7 @@ use Rattle.std.specs.Prelude.{◌≡◌, Result, Ok, Err}
 use Rattle.updater_text.specs.declared.stops.Lack.{Lack}
 use Rattle.updater_text.specs.declared.stops.Lack.TheVariants.{Refused, NoMemory}
 
--- the answer is this one, unless memory was wanting
+-- the answer is this one, or out of memory
 abbrev pub Gives : {T R : Type 0} → Result T (Lack R) → Result T R → Type 0
 Gives (Ok x) expected = expected ≡ Ok x
 Gives (Err (Refused r)) expected = expected ≡ Err r

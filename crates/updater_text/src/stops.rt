@@ -3,7 +3,7 @@ ghost use Rattle.updater_text.specs.declared.stops.Lack.TheVariants as lack;
 
 use std::alloc::{AllocError, AllocFailed};
 
-/// Memory was wanting.
+/// Out of memory.
 #[derive(Clone, Copy, Debug, PartialEq, Eq)]
 pub struct NoMemory;
 
@@ -19,7 +19,7 @@ impl<T: Drop> From<AllocFailed<T>> for NoMemory {
     }
 }
 
-/// Why a call that only computes gave no value: a refusal of its own, or want of memory.
+/// Why a call that only computes gave no value: a refusal of its own, or out of memory.
 #[derive(Clone, Debug, Drop)]
 pub enum Lack<R> {
     Refused(R),
