@@ -2,8 +2,6 @@
 #![tactic(auto)]
 
 mod boot_kind;
-#[cfg(test)]
-mod tests;
 mod vars;
 
 pub use boot_kind::BootKind;

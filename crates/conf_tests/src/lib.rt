@@ -1,7 +1,9 @@
-//! Tests of key files, the forms of their values and the configuration of a system.
+//! Tests of key files, the forms of their values, the configuration of a system, and boot variables.
 #![tactic(auto)]
 
 #[cfg(test)]
 mod keyfile_tests;
 #[cfg(test)]
 mod system_tests;
+#[cfg(test)]
+mod vars_tests;
