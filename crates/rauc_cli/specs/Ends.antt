@@ -17,6 +17,7 @@ use Rattle.rauc_words.specs.declared.asked.Run.{Run}
 use Rattle.system_conf.specs.declared.slot.Slot.{Slot}
 use Rattle.slot_writer.specs.declared.refusal.SlotRefusal.{SlotRefusal}
 use Rattle.slot_writer.specs.declared.refusal.SlotWritten.{SlotWritten}
+use Rattle.slot_writer.specs.Checks.{NamesSlot}
 use Rattle.running_system.specs.Running.{RunningKept}
 use Rattle.rauc_cli.specs.declared.conf.NoSystem.TheVariants.{Missing, Bad}
 use Rattle.rauc_cli.specs.declared.outcome.Outcome.{Outcome}
@@ -28,10 +29,10 @@ use Rattle.rauc_cli.specs.Plans.{Plan, AfterAStop, AtTheEnd, OnTheWay, booted_fo
 
 -- ---- texts: told or not, a report's texts are those of its outcome
 
--- write-slot, by the outcome
+-- write-slot, by the outcome; a slot that a refusal names by its place has the name that the words give
 abbrev pub SlotTexts : List ℕ → List ℕ → Outcome → Report → Type 0
 SlotTexts slot image end.Done report = (size : ℕ) × (digest : Digest) × (report ≡ written_report slot size digest.0)
-SlotTexts slot image (end.Slot refusal) report = (slots : List Slot) × (report ≡ slot_refusal_report slots image refusal)
+SlotTexts slot image (end.Slot refusal) report = (slots : List Slot) × NamesSlot slots slot image refusal × (report ≡ slot_refusal_report slots image refusal)
 SlotTexts slot image (end.Outside kind) report = report ≡ outside kind
 SlotTexts slot image outcome report = ⊥
 

@@ -3,6 +3,7 @@ ghost use Rattle.machine.specs.Past.{world_now};
 ghost use Rattle.system_conf.specs.Reads.{system_configuration};
 ghost use Rattle.rauc_words.specs.Table.{command_of};
 ghost use Rattle.rauc_words.specs.declared.asked.Asked.TheVariants as asked;
+ghost use Rattle.slot_writer.specs.Checks.{IfRefused, NamesSlot};
 ghost use Rattle.slot_writer.specs.Slots.{slot_answer};
 ghost use Rattle.rauc_cli.specs.Plans.{asked_plan, command_plan, plan_of, slot_plan};
 ghost use Rattle.rauc_cli.specs.Ends.{CarriesOut, CommandTexts, Ended, HasCause, HasTexts, OutcomeCounted, Reports, SaysSlot, SlotTexts, StandsAStop, outcome_in};
@@ -26,6 +27,7 @@ fn slot_report(
     image: &str,
     written: Result<SlotWritten, Stop<SlotRefusal>>,
 ) -> Result<Report, NoMemory>
+    requires { IfRefused written (NamesSlot system.now.slots slot.now image.now) }
     ensures says { SaysSlot system.now.slots slot.now image.now written result }
     ensures texts { IfOk result (λ r. SlotTexts slot.now image.now r.outcome r) }
 {

@@ -1,4 +1,5 @@
 pub mod Checking
+pub mod Naming
 pub mod Putting
 pub mod Sparing
 pub mod Stopping

@@ -1,5 +1,5 @@
 -- Why an image is not written to a slot, by what the slot is, what runs and what is mounted.
-use Rattle.std.specs.Prelude.{ℕ, Bool, true, false, IsTrue, List, if◌then◌else◌, Option, Some, None, Result, Ok, Err, slice_get, option_and_then}
+use Rattle.std.specs.Prelude.{◌≡◌, ℕ, Bool, true, false, IsTrue, List, if◌then◌else◌, Option, Some, None, Result, Ok, Err, slice_get, option_and_then}
 use Rattle.machine.specs.declared.stops.Stop.{Stop}
 use Rattle.machine.specs.declared.world.World.{World}
 use Rattle.machine.specs.Past.{Past, Fails}
@@ -16,7 +16,9 @@ use Rattle.slot_graph.specs.Archives.{is_archive}
 use Rattle.slot_graph.specs.Booted.{state_of}
 use Rattle.running_system.specs.Running.{is_in_use, is_mounted, what_is_mounted, what_runs}
 use Rattle.slot_writer.specs.declared.refusal.SlotRefusal.{SlotRefusal}
-use Rattle.slot_writer.specs.declared.refusal.SlotRefusal.TheVariants.{BootedUnknown, Busy, ReadOnly, ArchiveImage, WrongType, MountsUnread, Mounted}
+use Rattle.machine.specs.declared.stops.Stop.TheVariants as stop
+use Rattle.slot_writer.specs.declared.refusal.SlotRefusal.TheVariants.{NoSuchSlot, BootedUnknown, Busy, ReadOnly, ArchiveImage, WrongType, MountsUnread, Mounted}
+use Rattle.slot_writer.specs.Causes.{name_at}
 
 -- what is booted is not known, or the slot at the place is in use
 abbrev pub use_refusal : List Slot → Booted → ℕ → Option SlotRefusal
@@ -54,6 +56,31 @@ refusal_at slots given at image w = option_and_then (λ slot. refusal_of slots g
 abbrev pub pass_unless : Option SlotRefusal → Result (Unit {0}) SlotRefusal
 pass_unless None = Ok tt
 pass_unless (Some refusal) = Err refusal
+
+-- a slot that a refusal names by its place is this one, and an image that it names this one
+abbrev pub IsAbout : ℕ → List ℕ → SlotRefusal → Type 0
+IsAbout at image (NoSuchSlot text) = ⊥
+IsAbout at image (Busy slot) = slot ≡ at
+IsAbout at image (ReadOnly slot) = slot ≡ at
+IsAbout at image (WrongType slot) = slot ≡ at
+IsAbout at image (Mounted slot) = slot ≡ at
+IsAbout at image (ArchiveImage path) = path ≡ image
+IsAbout at image refusal = Unit {0}
+
+-- the same by the slot's name, whether or not a slot has it
+abbrev pub NamesSlot : List Slot → List ℕ → List ℕ → SlotRefusal → Type 0
+NamesSlot slots name image (NoSuchSlot text) = text ≡ name
+NamesSlot slots name image (Busy slot) = name_at slots slot ≡ name
+NamesSlot slots name image (ReadOnly slot) = name_at slots slot ≡ name
+NamesSlot slots name image (WrongType slot) = name_at slots slot ≡ name
+NamesSlot slots name image (Mounted slot) = name_at slots slot ≡ name
+NamesSlot slots name image (ArchiveImage path) = path ≡ image
+NamesSlot slots name image refusal = Unit {0}
+
+-- this holds of the refusal, where it is one
+abbrev pub IfRefused : {T : Type 0} → Result T (Stop SlotRefusal) → (SlotRefusal → Type 0) → Type 0
+IfRefused (Err (stop.Refused refusal)) P = P refusal
+IfRefused result P = Unit {0}
 
 -- where told: nothing was changed, and this refusal is answered where it holds, unless a call failed
 pub record SlotCheck (tells : Bool) (refusal : Option SlotRefusal) (old new : Past) (result : Result (Unit {0}) (Stop SlotRefusal)) : Type 0 where

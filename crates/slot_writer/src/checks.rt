@@ -1,8 +1,8 @@
-ghost use Rattle.std.specs.Prelude.{◌≡◌, ◌<◌, None, Some, length, option_map};
+ghost use Rattle.std.specs.Prelude.{◌≡◌, ◌<◌, ℕ, List, None, Some, length, option_map};
 ghost use Rattle.machine.specs.Past.{world_now};
 ghost use Rattle.machine.specs.Stops.{Settles, StopCounted, stop_fault};
 ghost use Rattle.running_system.specs.Running.{what_is_mounted, what_runs};
-ghost use Rattle.slot_writer.specs.Checks.{SlotCheck, kind_refusal, mount_refusal, pass_unless, refusal_at, use_refusal};
+ghost use Rattle.slot_writer.specs.Checks.{IfRefused, IsAbout, SlotCheck, kind_refusal, mount_refusal, pass_unless, refusal_at, use_refusal};
 
 use crate::SlotRefusal;
 use machine::{CallStop, Fault, Machine, Stop};
@@ -20,7 +20,8 @@ fn check_booted(
     at: usize,
 ) -> Result<(), Stop<SlotRefusal>>
     requires { at < length system.now.slots }
-    ensures { Settles result (pass_unless (use_refusal system.now.slots booted at)) × (stop_fault result ≡ None) }
+    ensures checks { Settles result (pass_unless (use_refusal system.now.slots booted at)) × (stop_fault result ≡ None) }
+    ensures about { (image : List ℕ) → IfRefused result (IsAbout at image) }
 {
     if matches!(booted, Booted::Unknown) {
         return Err(Stop::Refused(SlotRefusal::BootedUnknown));
@@ -42,6 +43,7 @@ fn check_use<M: Machine>(
 ) -> Result<(), Stop<SlotRefusal>>
     requires { at < length system.now.slots }
     ensures checks { SlotCheck M.tells (use_refusal system.now.slots (what_runs system.now.slots (option_map (λ name. name.now) given.entry) (world_now (M.past m.old))) at) (M.past m.old) (M.past m.new) result }
+    ensures about { (image : List ℕ) → IfRefused result (IsAbout at image) }
     ensures counts { StopCounted (M.faults m.old) (M.faults m.new) (M.wants m.old) (M.wants m.new) result }
 {
     match what_runs(alloc, m, system, given) {
@@ -53,7 +55,8 @@ fn check_use<M: Machine>(
 
 // Refuses a slot, or an image for it, whatever stands on the machine.
 fn check_kind(alloc: Global, at: usize, slot: &Slot, image: &str) -> Result<(), Stop<SlotRefusal>>
-    ensures { Settles result (pass_unless (kind_refusal at slot.now image.now)) × (stop_fault result ≡ None) }
+    ensures checks { Settles result (pass_unless (kind_refusal at slot.now image.now)) × (stop_fault result ≡ None) }
+    ensures about { IfRefused result (IsAbout at image.now) }
 {
     if slot.readonly {
         return Err(Stop::Refused(SlotRefusal::ReadOnly { slot: at }));
@@ -70,7 +73,8 @@ fn check_kind(alloc: Global, at: usize, slot: &Slot, image: &str) -> Result<(), 
 
 // Refuses the slot where its device is mounted.
 fn check_mounted(mounts: &[Mount], at: usize, slot: &Slot) -> Result<(), Stop<SlotRefusal>>
-    ensures { Settles result (pass_unless (mount_refusal at slot.now (Some mounts.now))) × (stop_fault result ≡ None) }
+    ensures checks { Settles result (pass_unless (mount_refusal at slot.now (Some mounts.now))) × (stop_fault result ≡ None) }
+    ensures about { (image : List ℕ) → IfRefused result (IsAbout at image) }
 {
     if is_mounted(mounts, slot.device.as_str()) {
         return Err(Stop::Refused(SlotRefusal::Mounted { slot: at }));
@@ -86,6 +90,7 @@ fn check_mounts<M: Machine>(
     slot: &Slot,
 ) -> Result<(), Stop<SlotRefusal>>
     ensures checks { SlotCheck M.tells (mount_refusal at slot.now (what_is_mounted (world_now (M.past m.old)))) (M.past m.old) (M.past m.new) result }
+    ensures about { (image : List ℕ) → IfRefused result (IsAbout at image) }
     ensures counts { StopCounted (M.faults m.old) (M.faults m.new) (M.wants m.old) (M.wants m.new) result }
 {
     match what_is_mounted(alloc, m) {
@@ -107,6 +112,7 @@ pub fn check_slot<M: Machine>(
 ) -> Result<(), Stop<SlotRefusal>>
     requires { at < length system.now.slots }
     ensures checks { SlotCheck M.tells (refusal_at system.now.slots (option_map (λ name. name.now) given.entry) at image.now (world_now (M.past m.old))) (M.past m.old) (M.past m.new) result }
+    ensures about { IfRefused result (IsAbout at image.now) }
     ensures counts { StopCounted (M.faults m.old) (M.faults m.new) (M.wants m.old) (M.wants m.new) result }
 {
     let slot = &system.slots.as_slice()[at];

@@ -3,6 +3,7 @@ ghost use Rattle.machine.specs.Frames.{CrashChangesOnly};
 ghost use Rattle.machine.specs.Past.{world_now};
 ghost use Rattle.machine.specs.Stops.{StopCounted};
 ghost use Rattle.running_system.specs.Running.{RunningKept, what_runs};
+ghost use Rattle.slot_writer.specs.Checks.{IfRefused, IsAbout, NamesSlot};
 ghost use Rattle.slot_writer.specs.Slots.{Puts, place_answer, device_at, image_stop, put_answer, slot_answer, slot_device, touched_size, whole_answer};
 
 use crate::checks::check_slot;
@@ -58,6 +59,7 @@ fn write_on<M: Machine>(
     image: &str,
 ) -> Result<SlotWritten, Stop<SlotRefusal>>
     ensures put { Puts M.tells image.now device.now (put_answer slot image.now device.now (world_now (M.past m.old))) (M.past m.old) (M.past m.new) result }
+    ensures about { IfRefused result (IsAbout slot image.now) }
     ensures counts { StopCounted (M.faults m.old) (M.faults m.new) (M.wants m.old) (M.wants m.new) result }
 {
     let size = match check_image(alloc, m, image, None, Some(device)) {
@@ -91,6 +93,7 @@ fn write_at<M: Machine>(
 ) -> Result<SlotWritten, Stop<SlotRefusal>>
     requires { at < length system.now.slots }
     ensures put { Puts M.tells image.now (device_at system.now.slots at) (place_answer system.now.slots (option_map (λ name. name.now) given.entry) image.now (world_now (M.past m.old)) at) (M.past m.old) (M.past m.new) result }
+    ensures about { IfRefused result (IsAbout at image.now) }
     ensures counts { StopCounted (M.faults m.old) (M.faults m.new) (M.wants m.old) (M.wants m.new) result }
 {
     match check_slot(alloc, m, system, given, at, image) {
@@ -116,6 +119,7 @@ pub fn write_slot<M: Machine>(
     image: &str,
 ) -> Result<SlotWritten, Stop<SlotRefusal>>
     ensures put { Puts M.tells image.now (slot_device system.now.slots slot.now) (slot_answer system.now.slots (option_map (λ name. name.now) given.entry) slot.now image.now (world_now (M.past m.old))) (M.past m.old) (M.past m.new) result }
+    ensures names { IfRefused result (NamesSlot system.now.slots slot.now image.now) }
     ensures held { CrashChangesOnly M.tells (slot_device system.now.slots slot.now) 0 (touched_size (slot_answer system.now.slots (option_map (λ name. name.now) given.entry) slot.now image.now (world_now (M.past m.old)))) (M.past m.old) (M.past m.new) }
     ensures running { RunningKept M.tells system.now.slots (what_runs system.now.slots (option_map (λ name. name.now) given.entry) (world_now (M.past m.old))) (M.past m.old) (M.past m.new) }
     ensures counts { StopCounted (M.faults m.old) (M.faults m.new) (M.wants m.old) (M.wants m.new) result }

@@ -8,4 +8,4 @@ use Rattle.slot_writer.proofs.checks.check_use.Goals as goal
 
 pub returns-in-Ok-clause-checks : goal.returns-in-Ok-clause-checks
 returns-in-Ok-clause-checks g c =
-    checks_asked _ (λ (b : Booted). use_refusal c.args.system.now.slots b c.args.at) (what_runs c.args.system.now.slots (option_map (λ name. name.now) c.args.given) (world_now (g.M.Machine.past c.args.m.now))) c.in-Ok.booted _ _ _ c.in-Ok.ensures.unchanged c.in-Ok.ensures.fails c.in-Ok.ensures.answers c.check_booted.ensures
+    checks_asked _ (λ (b : Booted). use_refusal c.args.system.now.slots b c.args.at) (what_runs c.args.system.now.slots (option_map (λ name. name.now) c.args.given) (world_now (g.M.Machine.past c.args.m.now))) c.in-Ok.booted _ _ _ c.in-Ok.ensures.unchanged c.in-Ok.ensures.fails c.in-Ok.ensures.answers c.check_booted.ensures.checks

@@ -2,6 +2,7 @@ use Rattle.std.proofs.Common.{◌≡◌, ◌∙◌, ℕ, length, subst}
 use Rattle.machine.specs.Past.{world_now}
 use Rattle.raw_writer.specs.Whole.{WholeEnds}
 use Rattle.slot_writer.specs.Slots.{piece}
+use Rattle.slot_writer.proofs.Naming.{whole_about}
 use Rattle.slot_writer.proofs.Putting.{counted_whole, puts_whole, room_checked}
 use Rattle.slot_writer.proofs.write.write_on.Goals as goal
 
@@ -19,3 +20,6 @@ pub returns-clause-counts : goal.returns-clause-counts
 returns-clause-counts g c =
     rw c.whole_answer.ensures
     (counted_whole _ _ _ _ _ _ c.args.slot c.in-Ok.size c.write_whole-written.result c.in-Ok.ensures.counts.0 c.in-Ok.ensures.counts.1 c.write_whole-written.ensures.counts)
+
+pub returns-clause-about : goal.returns-clause-about
+returns-clause-about g c = rw c.whole_answer.ensures (whole_about c.args.slot c.in-Ok.size c.args.image.now c.write_whole-written.result)
