@@ -1,5 +1,6 @@
 mod Entries
 pub mod FirstOf
+mod Items
 mod Lists
 pub mod Numbered
 mod Slashes

@@ -1,10 +1,11 @@
--- The forms that the values of a configuration have.
+-- The forms that the values of a configuration and of a manifest have.
 use Rattle.std.specs.Prelude.{ℕ, ◌-◌, ◌==◌, Bool, true, false, ◌&&◌, not, nat_le, List, [], ◌∷◌, codes, length, take, slice_index, Option, Some, None, is_some, if◌then◌else◌}
 use Rattle.std.specs.List.{list_all, slice_split}
 use Rattle.std.specs.Str.{bytes_eq}
 use Rattle.updater_text.specs.Flags.{flag_of}
 use Rattle.updater_text.specs.Numbers.{number_of}
 use Rattle.keyfile.specs.Groups.{Text}
+use Rattle.keyfile.specs.Items.{items_of}
 use Rattle.conf_forms.specs.Lists.{is_among, keep_if}
 use Rattle.conf_forms.specs.declared.form.Form.{Form}
 use Rattle.conf_forms.specs.declared.form.Form.TheVariants as form
@@ -19,6 +20,18 @@ slot_types =
     codes "raw" ∷ codes "ext4" ∷ codes "vfat"
     ∷ codes "nand" ∷ codes "nor" ∷ codes "ubivol" ∷ codes "ubifs" ∷ codes "jffs2"
     ∷ codes "boot-emmc" ∷ codes "boot-gpt-switch" ∷ codes "boot-mbr-switch" ∷ codes "boot-raw-fallback" ∷ []
+
+-- the hooks that a bundle may name
+abbrev pub bundle_hooks : List Text
+bundle_hooks = codes "install-check" ∷ []
+
+-- and those that an image may name
+abbrev pub image_hooks : List Text
+image_hooks = codes "pre-install" ∷ codes "install" ∷ codes "post-install" ∷ []
+
+-- a list of some of these words
+abbrev pub are_among : List Text → Text → Bool
+are_among words value = list_all (is_among words) (items_of value)
 
 -- not empty, and at most 1,024 bytes
 abbrev pub is_short : Text → Bool
@@ -77,6 +90,9 @@ accepts form.Activation value = is_some (flag_of value)
 accepts form.Attempts value = is_some (attempts_of value)
 accepts form.SlotType value = is_among slot_types value
 accepts form.BootName value = is_bootname value
+accepts form.Number value = is_some (number_of value)
+accepts form.BundleHooks value = are_among bundle_hooks value
+accepts form.ImageHooks value = are_among image_hooks value
 accepts form.Text value = is_text value
 accepts form.Free value = true
 accepts form.LeftOut value = true

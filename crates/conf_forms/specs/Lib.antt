@@ -5,4 +5,5 @@ pub mod Lists
 pub mod Searches
 pub mod SlotNames
 pub mod Tables
+pub mod Values
 pub mod Walks

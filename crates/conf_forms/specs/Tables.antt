@@ -1,5 +1,5 @@
 -- Tables of the groups and keys that a key file may have.
-use Rattle.std.specs.Prelude.{Bool, true, false, List, nat_eq, find, Option, Some, None, option_map, unwrap_or}
+use Rattle.std.specs.Prelude.{Bool, true, false, List, drop, length, nat_eq, find, Option, Some, None, option_map, unwrap_or}
 use Rattle.std.specs.List.{starts_with}
 use Rattle.keyfile.specs.Groups.{Text}
 use Rattle.conf_forms.specs.Lists.{value_beside}
@@ -13,14 +13,15 @@ pub data GroupRule : Type 0 where
   unread : GroupRule
   keyed : List (Text × Form) → GroupRule
 
--- groups by their whole name, and others by what their name begins with
+-- groups by their whole name, and others by what their name begins with, and by the rest of it
 pub record Table : Type 0 where
   pub named : List (Text × GroupRule)
-  pub families : List (Text × GroupRule)
+  pub families : List (Text × (Text → GroupRule))
 
 -- what it says of a group by what the name begins with
 abbrev pub family_rule : Table → Text → GroupRule
-family_rule table group = unwrap_or (option_map (λ f. f.1) (find (λ f. starts_with nat_eq group f.0) table.families)) unknown
+family_rule table group =
+    unwrap_or (option_map (λ f. f.1 (drop (length f.0) group)) (find (λ f. starts_with nat_eq group f.0) table.families)) unknown
 
 -- what it says of a group
 abbrev pub group_rule : Table → Text → GroupRule

@@ -2,6 +2,7 @@ ghost use Rattle.std.specs.Prelude.{◌≡◌, ◌==◌};
 ghost use Rattle.std.specs.List.{list_all, slice_split};
 ghost use Rattle.conf_forms.specs.Forms as spec;
 
+use crate::list::{are_bundle_hooks, are_image_hooks};
 use updater_text::{read_flag, read_number};
 
 /// What the value of a key has to look like.
@@ -27,6 +28,12 @@ pub enum Form {
     SlotType,
     /// A bootname.
     BootName,
+    /// A decimal number of 64 bits.
+    Number,
+    /// A list of hooks of a bundle, of which there is `install-check`.
+    BundleHooks,
+    /// A list of hooks of an image: `pre-install`, `install` and `post-install`.
+    ImageHooks,
     /// A text of at most 1,024 bytes, which may be empty.
     Text,
     /// Any text.
@@ -49,6 +56,9 @@ impl Form {
             Form::Attempts => attempts_of(value).is_some(),
             Form::SlotType => is_slot_type(value),
             Form::BootName => is_bootname(value),
+            Form::Number => read_number(value.as_bytes()).is_some(),
+            Form::BundleHooks => are_bundle_hooks(value),
+            Form::ImageHooks => are_image_hooks(value),
             Form::Text => is_text(value),
             Form::Free | Form::LeftOut => true,
         }

@@ -5,13 +5,25 @@ ghost use Rattle.conf_forms.specs.Walks as spec;
 
 use crate::KeyTable;
 use keyfile::KeyFile;
-use updater_text::NoMemory;
+use std::alloc::Global;
+use updater_text::{NoMemory, Text};
 
 /// A group, with an empty key, or a key of it.
 #[derive(Clone, Copy)]
 pub struct KeyPlace<'a> {
     pub group: &'a str,
     pub key: &'a str,
+}
+
+impl KeyPlace<'_> {
+    /// Copies of the group's name and of the key.
+    pub fn copy(&self, alloc: Global) -> Result<(Text, Text), NoMemory>
+        ensures { IfOk result (λ texts. texts ≡ spec.place_texts self.now) }
+    {
+        let group = Text::new(alloc, self.group)?;
+        let key = Text::new(alloc, self.key)?;
+        Ok((group, key))
+    }
 }
 
 // What is looked for along the groups and keys of a file.

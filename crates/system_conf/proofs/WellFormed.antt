@@ -24,7 +24,8 @@ use Rattle.system_conf.specs.KeyTable.{system_table}
 use Rattle.system_conf.specs.Mandatory.{custom_keys, device_keys, first_missing}
 use Rattle.system_conf.specs.OwnFiles.{own_device, own_files_of}
 use Rattle.system_conf.specs.Slots.{slot_of, slots_of, device_of, kind_with, word_of}
-use Rattle.system_conf.specs.Values.{compatible_of, value_with_form, loader_of, attempts_in, mount_prefix_of, data_directory_of, grubenv_of, central_file, status_file_of, helpers_of, custom_program_of, boot_of, flag_in, is_at}
+use Rattle.conf_forms.specs.Values.{value_with_form}
+use Rattle.system_conf.specs.Values.{compatible_of, loader_of, attempts_in, mount_prefix_of, data_directory_of, grubenv_of, central_file, status_file_of, helpers_of, custom_program_of, boot_of, flag_in, is_at}
 use Rattle.system_conf.specs.declared.conf_refusal.ConfRefusal.TheVariants as refusal
 use Rattle.system_conf.specs.declared.slot.Slot.{Slot}
 use Rattle.system_conf.specs.declared.slot.SlotKind.TheVariants as slot

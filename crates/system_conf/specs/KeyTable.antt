@@ -44,7 +44,7 @@ system_table = record {
       (codes "system", keyed system_keys) ∷ (codes "handlers", keyed handler_keys) ∷ (codes "x-helpers", keyed helper_keys)
       ∷ (codes "keyring", unread) ∷ (codes "streaming", unread) ∷ (codes "encryption", unread) ∷ (codes "casync", unread)
       ∷ (codes "polling", left_out) ∷ (codes "autoinstall", left_out) ∷ [];
-  families = (codes "slot.", keyed slot_keys) ∷ (codes "log.", unread) ∷ (codes "artifacts.", left_out) ∷ [];
+  families = (codes "slot.", λ name. keyed slot_keys) ∷ (codes "log.", λ name. unread) ∷ (codes "artifacts.", λ name. left_out) ∷ [];
 }
 
 -- what the table says of groups of a kind, by the code's word for it

@@ -5,7 +5,8 @@ use Rattle.std.specs.Str.{bytes_eq}
 use Rattle.keyfile.specs.Groups.{Text, Group, get_in}
 use Rattle.conf_forms.specs.SlotNames.{name_of, class_of, index_of, index_in, slot_groups, slot_names}
 use Rattle.conf_forms.specs.declared.form.Form.TheVariants as form
-use Rattle.system_conf.specs.Values.{value_with_form, flag_in}
+use Rattle.conf_forms.specs.Values.{value_with_form}
+use Rattle.system_conf.specs.Values.{flag_in}
 use Rattle.system_conf.specs.declared.slot.Slot.{Slot}
 use Rattle.system_conf.specs.declared.slot.SlotKind.{SlotKind}
 use Rattle.system_conf.specs.declared.slot.SlotKind.TheVariants as slot

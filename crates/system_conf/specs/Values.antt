@@ -1,4 +1,4 @@
--- The values of a configuration, with their defaults. A value that does not have its form counts as one that is not there.
+-- The values of a configuration, with their defaults.
 use Rattle.std.specs.Prelude.{ℕ, Bool, true, false, List, [], ◌++◌, codes, Option, Some, None, option_map, option_and_then, unwrap_or, if◌then◌else◌}
 use Rattle.std.specs.Option.{option_map_or}
 use Rattle.updater_text.specs.Paths.{lies_under}
@@ -7,15 +7,11 @@ use Rattle.updater_text.specs.Flags.{flag_of}
 use Rattle.boot_model.specs.declared.boot_kind.BootKind.{BootKind}
 use Rattle.boot_model.specs.declared.boot_kind.BootKind.TheVariants as boot
 use Rattle.keyfile.specs.Groups.{Text, Group, get_in}
-use Rattle.conf_forms.specs.Lists.{or_else, keep_if}
-use Rattle.conf_forms.specs.Forms.{accepts, attempts_of, without_slash}
-use Rattle.conf_forms.specs.declared.form.Form.{Form}
+use Rattle.conf_forms.specs.Lists.{or_else}
+use Rattle.conf_forms.specs.Forms.{attempts_of, without_slash}
+use Rattle.conf_forms.specs.Values.{value_with_form}
 use Rattle.conf_forms.specs.declared.form.Form.TheVariants as form
 use Rattle.system_conf.specs.declared.system.Helpers.{Helpers}
-
--- the value of a key whose values have this form
-abbrev pub value_with_form : List Group → Form → Text → Text → Option Text
-value_with_form groups form group key = keep_if (accepts form) (get_in groups group key)
 
 -- the flag at a key
 abbrev pub flag_in : List Group → Text → Text → Bool → Bool

@@ -4,7 +4,7 @@ ghost use Rattle.system_conf.specs.Refusals as spec;
 use crate::mandatory::first_missing;
 use crate::{ConfRefusal, Reader};
 use conf_forms::{first_bad, first_left_out, first_unknown};
-use updater_text::{NoMemory, Text};
+use updater_text::NoMemory;
 
 /// The first mandatory key that has no value.
 #[tactic(auto, unfolding(crate::specs::Refusals::missing))]
@@ -12,10 +12,10 @@ pub fn missing(reader: &Reader<'_>) -> Result<Option<ConfRefusal>, NoMemory>
     ensures { IfOk result (λ refusal. refusal ≡ spec.missing reader.now.file.now) }
 {
     match first_missing(reader) {
-        Some(place) => Ok(Some(ConfRefusal::Missing {
-            group: Text::new(reader.alloc, place.group)?,
-            key: Text::new(reader.alloc, place.key)?,
-        })),
+        Some(place) => {
+            let (group, key) = place.copy(reader.alloc)?;
+            Ok(Some(ConfRefusal::Missing { group, key }))
+        }
         None => Ok(None),
     }
 }
@@ -26,10 +26,10 @@ pub fn unknown_key(reader: &Reader<'_>) -> Result<Option<ConfRefusal>, NoMemory>
     ensures { IfOk result (λ refusal. refusal ≡ spec.unknown_key reader.now.file.now) }
 {
     match first_unknown(reader, reader.file)? {
-        Some(place) => Ok(Some(ConfRefusal::UnknownKey {
-            group: Text::new(reader.alloc, place.group)?,
-            key: Text::new(reader.alloc, place.key)?,
-        })),
+        Some(place) => {
+            let (group, key) = place.copy(reader.alloc)?;
+            Ok(Some(ConfRefusal::UnknownKey { group, key }))
+        }
         None => Ok(None),
     }
 }
@@ -40,10 +40,10 @@ pub fn left_out(reader: &Reader<'_>) -> Result<Option<ConfRefusal>, NoMemory>
     ensures { IfOk result (λ refusal. refusal ≡ spec.left_out reader.now.file.now) }
 {
     match first_left_out(reader, reader.file)? {
-        Some(place) => Ok(Some(ConfRefusal::LeftOut {
-            group: Text::new(reader.alloc, place.group)?,
-            key: Text::new(reader.alloc, place.key)?,
-        })),
+        Some(place) => {
+            let (group, key) = place.copy(reader.alloc)?;
+            Ok(Some(ConfRefusal::LeftOut { group, key }))
+        }
         None => Ok(None),
     }
 }
@@ -54,10 +54,10 @@ pub fn bad_value(reader: &Reader<'_>) -> Result<Option<ConfRefusal>, NoMemory>
     ensures { IfOk result (λ refusal. refusal ≡ spec.bad_value reader.now.file.now) }
 {
     match first_bad(reader, reader.file)? {
-        Some(place) => Ok(Some(ConfRefusal::BadValue {
-            group: Text::new(reader.alloc, place.group)?,
-            key: Text::new(reader.alloc, place.key)?,
-        })),
+        Some(place) => {
+            let (group, key) = place.copy(reader.alloc)?;
+            Ok(Some(ConfRefusal::BadValue { group, key }))
+        }
         None => Ok(None),
     }
 }

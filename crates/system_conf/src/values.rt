@@ -3,21 +3,10 @@ ghost use Rattle.system_conf.specs.Values as spec;
 
 use crate::Helpers;
 use boot_model::BootKind;
-use conf_forms::{Form, attempts_of, without_slash};
+use conf_forms::{Form, attempts_of, value_with_form, without_slash};
 use keyfile::KeyFile;
 use std::alloc::Global;
 use updater_text::{NoMemory, Text, read_flag};
-
-/// The value of a key whose values have this form; None where there is none, or where it has
-/// another form.
-pub fn value_with_form<'a>(file: &'a KeyFile, form: Form, group: &str, key: &str) -> Option<&'a str>
-    ensures { option_copied result ≡ spec.value_with_form file.entry.now form group.now key.now }
-{
-    match file.get(group, key) {
-        Some(value) if form.accepts(value) => Some(value),
-        _ => None,
-    }
-}
 
 /// The flag at a key, or else the default.
 pub fn flag_in(file: &KeyFile, group: &str, key: &str, default: bool) -> bool
