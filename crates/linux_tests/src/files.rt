@@ -1,173 +1,165 @@
 // Files and devices.
-use crate::paths::{has_text, make_file, path_of, remove_all};
-use crate::watched::{Notes, Watched};
-use machine::{CallStop, Machine, ReadStop, fill};
-use machine_linux::Linux;
-use std::alloc::Global;
+use crate::paths::Deed::{Has, Put};
+use crate::steps::Place::{At, New};
+use crate::steps::Step::{
+    Beside, Count, Missing, Now, Piece, Replace, Rest, Size, Sync, Unread, Whole, Write,
+};
+use crate::steps::Trace::{Any, Asks};
+use crate::steps::Trouble::Nothing;
+use crate::steps::{Case, DONE, FAILED, Watch, first_wrong, first_wrong_watched};
+use machine::{CallStop, ReadStop};
 use std::fs;
 use std::os::unix::fs::FileTypeExt;
-use std::test::Fail;
-use std::time::Duration;
 
-// Whether the file is read whole, with these bytes.
-fn is_whole<M: Machine>(m: &mut M, alloc: Global, path: &str, limit: u64, text: &str) -> bool {
-    match m.file_read(alloc, path, limit) {
-        Ok(Some(bytes)) => bytes.as_slice() == text.as_bytes(),
-        _ => false,
+static CASES: [Case<'static>; 12] = [
+    // it writes and reads back
+    Case {
+        place: New("disk", "................"),
+        steps: &[
+            Write(13, "abc", DONE),
+            Write(0, "d", DONE),
+            Sync(DONE),
+            Whole(16, "d............abc"),
+        ],
+    },
+    // it lets a file go before it is replaced
+    Case {
+        place: New("replaced", "old bytes"),
+        steps: &[
+            Piece(0, b"old "),
+            Write(0, "OLD", DONE),
+            Replace("new bytes", DONE),
+            Piece(0, b"new "),
+            Write(0, "NEW", DONE),
+            Beside("", Has("NEW bytes")),
+        ],
+    },
+    // it reads parts
+    Case {
+        place: New("image", "abc"),
+        steps: &[
+            Rest(Ok(2), b"bc___"),
+            Count(3, Ok(0)),
+            Size(false, Ok(Some(3))),
+        ],
+    },
+    // it reads whole files within a limit
+    Case {
+        place: New("whole", "0123456789"),
+        steps: &[
+            Whole(10, "0123456789"),
+            Unread(8, ReadStop::TooLong { length: 10 }),
+        ],
+    },
+    // it lets a file go after a fault, here one that ends sooner than it did when it was opened
+    Case {
+        place: New("fault", "0123456789"),
+        steps: &[
+            Count(0, Ok(4)),
+            Beside("", Put("abcdef")),
+            Count(4, Err(CallStop::Failed)),
+            Count(4, Ok(2)),
+        ],
+    },
+    // it tells faults of devices; what is written to the second cannot be synced
+    Case {
+        place: At("/dev/full"),
+        steps: &[Write(0, "abc", FAILED)],
+    },
+    Case {
+        place: At("/dev/null"),
+        steps: &[Write(0, "abc", DONE), Sync(FAILED)],
+    },
+    // it reads files that tell no length
+    Case {
+        place: At("/proc/self/cmdline"),
+        steps: &[
+            Size(false, Ok(Some(0))),
+            Unread(3, ReadStop::TooLong { length: 4 }),
+            Count(1, Ok(4)),
+        ],
+    },
+    // it finds nothing under a missing path
+    Case {
+        place: At("/proc/self/missing"),
+        steps: &[
+            Missing(9),
+            Size(true, Ok(None)),
+            Count(0, Ok(0)),
+            Write(0, "x", FAILED),
+            Sync(FAILED),
+        ],
+    },
+    Case {
+        place: At("/proc/self/cmdline/below"),
+        steps: &[Missing(9), Size(true, Ok(None)), Count(0, Ok(0))],
+    },
+    // it refuses folders, and a path with a NUL
+    Case {
+        place: At("/tmp"),
+        steps: &[
+            Unread(1, ReadStop::Failed),
+            Size(true, Err(CallStop::Failed)),
+            Count(0, Err(CallStop::Failed)),
+            Write(0, "x", FAILED),
+        ],
+    },
+    Case {
+        place: At("a\0b"),
+        steps: &[Unread(1, ReadStop::Failed)],
+    },
+];
+
+#[test]
+fn answers_for_files_and_devices(rt: HostRuntime) {
+    assert_eq!(rt;
+        first_wrong(rt, &rt, &CASES),
+        None,
+        "row and step of the files"
+    );
+}
+
+static WATCHED: [Watch<'static>; 3] = [
+    // it opens a file once; no byte is written at first, then some are, which it advises of, and then
+    // some without advice
+    (
+        Nothing,
+        Case {
+            place: New("advised", ""),
+            steps: &[
+                Write(0, "", DONE),
+                Write(1_048_573, "abc", DONE),
+                Write(1_048_576, "def", DONE),
+            ],
+        },
+        Asks(5_272),
+    ),
+    // it takes the length of a block device from its end; here a file that is said to be one, since
+    // only root may open one
+    (
+        Nothing,
+        Case {
+            place: New("block", "0123456789"),
+            steps: &[Size(true, Ok(Some(10)))],
+        },
+        Any,
+    ),
+    // it tells whole seconds
+    (
+        Nothing,
+        Case {
+            place: At(""),
+            steps: &[Now(Ok(1_700_000_000))],
+        },
+        Any,
+    ),
+];
+
+fn is_block_device(rt: &HostRuntime, path: &str) -> bool {
+    match fs::metadata(rt, path) {
+        Ok(found) => found.file_type().is_block_device(),
+        Err(_) => false,
     }
-}
-
-// Whether nothing is found at the path.
-fn is_missing<M: Machine>(m: &mut M, alloc: Global, path: &str) -> bool {
-    let is_none = m
-        .file_read(alloc, path, 9)
-        .is_ok_and(|found| found.is_none());
-    is_none && m.size(path, true) == Ok(None) && m.read_at(path, 0, &mut [0; 4]) == Ok(0)
-}
-
-// The length of a file that is longer than the limit.
-fn length_above<M: Machine>(m: &mut M, alloc: Global, path: &str, limit: u64) -> Option<u64> {
-    match m.file_read(alloc, path, limit) {
-        Err(ReadStop::TooLong { length }) => Some(length),
-        _ => None,
-    }
-}
-
-// What a read of four bytes at an offset gives.
-fn piece_at<M: Machine>(m: &mut M, path: &str, at: u64) -> (Result<usize, CallStop>, [u8; 4]) {
-    let mut piece = [b'_'; 4];
-    (m.read_at(path, at, &mut piece), piece)
-}
-
-#[test]
-fn writes_and_reads_back(rt: HostRuntime) -> Result<(), Fail> {
-    let disk = make_file(&rt, "disk", "................")?;
-    let mut m = Linux::new(rt, rt.alloc());
-    let writes = (m.write_at(&disk, 13, b"abc"), m.write_at(&disk, 0, b"d"));
-    assert_eq!(rt; (writes, m.sync(&disk)), ((Ok(()), Ok(())), Ok(())));
-    assert!(rt; is_whole(&mut m, rt.alloc(), &disk, 16, "d............abc"));
-    fs::remove_file(&rt, disk.as_str())?;
-    Ok(())
-}
-
-#[test]
-fn lets_a_file_go_before_it_is_replaced(rt: HostRuntime) -> Result<(), Fail> {
-    let file = make_file(&rt, "replaced", "old bytes")?;
-    let mut m = Linux::new(rt, rt.alloc());
-    let before = (piece_at(&mut m, &file, 0), m.write_at(&file, 0, b"OLD"));
-    assert_eq!(rt; before, ((Ok(4), *b"old "), Ok(())));
-    let replaced = m.file_replace(&file, b"new bytes");
-    let after = (piece_at(&mut m, &file, 0), m.write_at(&file, 0, b"NEW"));
-    assert_eq!(rt; (replaced, after), (Ok(()), ((Ok(4), *b"new "), Ok(()))));
-    assert!(rt; has_text(&rt, &file, "NEW bytes"));
-    fs::remove_file(&rt, file.as_str())?;
-    Ok(())
-}
-
-#[test]
-fn tells_faults_of_devices(rt: HostRuntime) {
-    let mut m = Linux::new(rt, rt.alloc());
-    let ends = (
-        m.write_at("/dev/full", 0, b"abc"),
-        m.write_at("/dev/null", 0, b"abc"),
-        m.sync("/dev/null"),
-    );
-    // what is written to /dev/null cannot be synced
-    let failed = Err(CallStop::Failed);
-    assert_eq!(rt; ends, (failed, Ok(()), failed));
-}
-
-#[test]
-fn reads_parts(rt: HostRuntime) -> Result<(), Fail> {
-    let image = make_file(&rt, "image", "abc")?;
-    let mut m = Linux::new(rt, rt.alloc());
-    let mut piece = [b'_'; 5];
-    let count = fill(&mut m, &image, 1, &mut piece);
-    assert_eq!(rt; (count, &piece), (Ok(2), b"bc___"));
-    assert_eq!(rt;
-        (piece_at(&mut m, &image, 3).0, m.size(&image, false)),
-        (Ok(0), Ok(Some(3)))
-    );
-    fs::remove_file(&rt, image.as_str())?;
-    Ok(())
-}
-
-#[test]
-fn reads_whole_files_within_a_limit(rt: HostRuntime) -> Result<(), Fail> {
-    let file = make_file(&rt, "whole", "0123456789")?;
-    let mut m = Linux::new(rt, rt.alloc());
-    let is_read = is_whole(&mut m, rt.alloc(), &file, 10, "0123456789");
-    assert_eq!(rt;
-        (is_read, length_above(&mut m, rt.alloc(), &file, 8)),
-        (true, Some(10))
-    );
-    fs::remove_file(&rt, file.as_str())?;
-    Ok(())
-}
-
-#[test]
-fn reads_files_that_tell_no_length(rt: HostRuntime) {
-    let words = "/proc/self/cmdline";
-    let mut m = Linux::new(rt, rt.alloc());
-    let lengths = (
-        m.size(words, false),
-        length_above(&mut m, rt.alloc(), words, 3),
-    );
-    assert_eq!(rt; lengths, (Ok(Some(0)), Some(4)));
-    assert_eq!(rt; piece_at(&mut m, words, 1).0, Ok(4));
-}
-
-#[test]
-fn finds_nothing_under_a_missing_path(rt: HostRuntime) {
-    let missing = "/proc/self/missing";
-    let mut m = Linux::new(rt, rt.alloc());
-    let is_none = is_missing(&mut m, rt.alloc(), missing)
-        && is_missing(&mut m, rt.alloc(), "/proc/self/cmdline/below");
-    let failed = Err(CallStop::Failed);
-    assert_eq!(rt;
-        (is_none, m.write_at(missing, 0, b"x"), m.sync(missing)),
-        (true, failed, failed)
-    );
-}
-
-#[test]
-fn refuses_folders(rt: HostRuntime) {
-    let mut m = Linux::new(rt, rt.alloc());
-    let is_read = m.file_read(rt.alloc(), "/tmp", 1).is_ok()
-        || m.file_read(rt.alloc(), "a\0b", 1).is_ok()
-        || m.size("/tmp", true).is_ok()
-        || m.read_at("/tmp", 0, &mut [0; 4]).is_ok()
-        || m.write_at("/tmp", 0, b"x").is_ok();
-    assert!(rt; !is_read);
-}
-
-#[test]
-fn lets_a_file_go_after_a_fault(rt: HostRuntime) -> Result<(), Fail> {
-    let file = make_file(&rt, "fault", "0123456789")?;
-    let mut m = Linux::new(rt, rt.alloc());
-    let before = piece_at(&mut m, &file, 0).0;
-    // it ends sooner than it did when it was opened
-    fs::write(&rt, file.as_str(), "abcdef")?;
-    let after = (piece_at(&mut m, &file, 4).0, piece_at(&mut m, &file, 4).0);
-    assert_eq!(rt; (before, after), (Ok(4), (Err(CallStop::Failed), Ok(2))));
-    fs::remove_file(&rt, file.as_str())?;
-    Ok(())
-}
-
-#[test]
-fn advises_after_it_wrote(rt: HostRuntime) -> Result<(), Fail> {
-    let disk = make_file(&rt, "advised", "")?;
-    let notes = Notes::new();
-    let mut m = Linux::new(Watched { rt, notes: &notes }, rt.alloc());
-    let ends = (
-        m.write_at(&disk, 0, b""),
-        m.write_at(&disk, 1_048_573, b"abc"),
-        m.write_at(&disk, 1_048_576, b"def"),
-    );
-    // opened once, no byte at first, then written, advised of, and written without advice
-    assert_eq!(rt; (ends, notes.steps()), ((Ok(()), Ok(()), Ok(())), 5_272));
-    fs::remove_file(&rt, disk.as_str())?;
-    Ok(())
 }
 
 // A block device of the system; None where it has none of these.
@@ -179,7 +171,7 @@ fn find_block_device(rt: &HostRuntime) -> Option<&'static str> {
         "/dev/nvme0n1",
         "/dev/mmcblk0",
     ] {
-        if fs::metadata(rt, path).is_ok_and(|found| found.file_type().is_block_device()) {
+        if is_block_device(rt, path) {
             return Some(path);
         }
     }
@@ -187,25 +179,14 @@ fn find_block_device(rt: &HostRuntime) -> Option<&'static str> {
 }
 
 #[test]
-fn takes_the_length_of_a_block_device_from_its_end(rt: HostRuntime) -> Result<(), Fail> {
-    let Some(device) = find_block_device(&rt) else {
-        println!(rt; "skipped: the length of a block device, since none is here")?;
-        return Ok(());
-    };
-    // a file that is said to be a device, since only root may open one
-    let disk = make_file(&rt, "block", "0123456789")?;
-    let mut notes = Notes::new();
-    notes.alike = Some(device);
-    let mut m = Linux::new(Watched { rt, notes: &notes }, rt.alloc());
-    assert_eq!(rt; m.size(&disk, true), Ok(Some(10)));
-    fs::remove_file(&rt, disk.as_str())?;
-    Ok(())
-}
-
-#[test]
-fn tells_whole_seconds(rt: HostRuntime) {
-    let mut notes = Notes::new();
-    notes.time = Some(Duration::from_millis(1_700_000_000_999));
-    let mut m = Linux::new(Watched { rt, notes: &notes }, rt.alloc());
-    assert_eq!(rt; m.now(), Ok(1_700_000_000));
+fn asks_the_system(rt: HostRuntime) {
+    let device = find_block_device(&rt);
+    if device.is_none() {
+        let _ = println!(rt; "skipped: the length of a block device, since none is here");
+    }
+    assert_eq!(rt;
+        first_wrong_watched(rt, &rt, &WATCHED, device),
+        None,
+        "row and step of what the system is asked for"
+    );
 }

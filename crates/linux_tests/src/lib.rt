@@ -10,4 +10,6 @@ mod replacements;
 #[cfg(test)]
 mod runs;
 #[cfg(test)]
+mod steps;
+#[cfg(test)]
 mod watched;

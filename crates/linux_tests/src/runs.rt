@@ -2,24 +2,99 @@
 ghost use Rattle.std.specs.Prelude.{◌≡◌, false, IfOk};
 ghost use Rattle.machine.specs.Spares.{is_boot};
 
-use crate::paths::{make_file, path_of, remove_all};
-use crate::watched::{Notes, PIPED, Watched};
-use machine::{CallStop, Child, ChildClass, Ended, EnvVar, Exit, Machine, RunStop, Spares};
-use machine_linux::Linux;
+use crate::paths::Deed::IsGone;
+use crate::steps::Place::{At, New};
+use crate::steps::Step::{Beside, Ends, Piece, Puts, Refused, Write};
+use crate::steps::{Case, DONE, Trace, Trouble, Watch, first_wrong, first_wrong_watched};
+use crate::watched::PIPED;
+use machine::{Child, ChildClass, Ended, EnvVar, Exit, Machine, RunStop, Spares};
 use std::alloc::Global;
-use std::fs;
-use std::os::fd::AsRawFd;
-use std::os::unix::fs::FileExt;
-use std::process::{Processes, SystemProcess};
-use std::rt::Files;
-use std::test::Fail;
-use std::thread::Threads;
-use std::time::Clock;
 use updater_text::{Items, NoMemory, Text};
 
-fn texts(alloc: Global, words: &[&str]) -> Result<Items<Text>, NoMemory> {
+// Among arguments, the path of the case.
+const PATH: &str = "PATH";
+
+// How a script ends, how many bytes of each stream are kept, and whether that is not all.
+pub type End = (Ended, [usize; 2], bool);
+
+static CASES: [Case<'static>; 4] = [
+    // it runs a program
+    Case {
+        place: At(""),
+        steps: &[
+            Puts("echo", &["a  b", "c"], "a  b c\n"),
+            Puts("/bin/sh", &["-c", "cat; pwd >/dev/null"], ""),
+            Puts(
+                "sh",
+                &["-c", "test -n \"$PATH\" && echo \"$RAUC_TEST\""],
+                "a value\n",
+            ),
+        ],
+    },
+    // it tells how a child ended, and keeps the front of each stream
+    Case {
+        place: At(""),
+        steps: &[
+            Ends(
+                "echo a; echo bc >&2; exit 7",
+                (Ended::Code(7), [2, 3], false),
+            ),
+            Ends("exit 255", (Ended::Code(255), [0, 0], false)),
+            Ends("echo a; kill -9 $$", (Ended::Signal, [2, 0], false)),
+            Ends(
+                "head -c 65536 /dev/zero",
+                (Ended::Code(0), [65_536, 0], false),
+            ),
+            Ends(
+                "head -c 1048576 /dev/zero; head -c 1048576 /dev/zero >&2; exit 1",
+                (Ended::Code(1), [65_536, 65_536], true),
+            ),
+            Ends(
+                "head -c 1048576 /dev/zero >&2; head -c 1048576 /dev/zero; exit 1",
+                (Ended::Code(1), [65_536, 65_536], true),
+            ),
+            Ends(
+                "echo a; head -c 65537 /dev/zero >&2",
+                (Ended::Code(0), [2, 65_536], true),
+            ),
+        ],
+    },
+    // it starts no program that is not there, and none with a NUL in a word
+    Case {
+        place: At(""),
+        steps: &[
+            Refused("/proc/self/missing", &[]),
+            Refused("rauc-has-no-such-program", &["a"]),
+            Refused("/tmp", &[]),
+            Refused("echo", &["a\0b"]),
+        ],
+    },
+    // it lets its files go before a child
+    Case {
+        place: New("replaced-by-child", "old bytes"),
+        steps: &[
+            Piece(0, b"old "),
+            Write(0, "OLD", DONE),
+            Puts(
+                "sh",
+                &[
+                    "-c",
+                    "echo new bytes >\"$0.next\" && mv \"$0.next\" \"$0\"",
+                    PATH,
+                ],
+                "",
+            ),
+            Piece(0, b"new "),
+            Write(0, "NEW", DONE),
+            Puts("cat", &[PATH], "NEW bytes\n"),
+        ],
+    },
+];
+
+fn texts(alloc: Global, words: &[&str], path: &str) -> Result<Items<Text>, NoMemory> {
     let mut texts = Items::new(alloc);
     for word in words {
+        let word = if *word == PATH { path } else { *word };
         texts.push(Text::new(alloc, word)?)?;
     }
     Ok(texts)
@@ -52,11 +127,11 @@ fn helper_of(alloc: Global, program: Text, args: Items<Text>, env: Items<EnvVar>
 }
 
 // A child with one variable, which need leave nothing alone.
-fn helper(alloc: Global, program: &str, args: &[&str]) -> Result<Child, NoMemory>
+fn helper(alloc: Global, program: &str, args: &[&str], path: &str) -> Result<Child, NoMemory>
     ensures { IfOk result (λ c. is_boot c.class ≡ false) }
 {
     let program = Text::new(alloc, program)?;
-    let args = texts(alloc, args)?;
+    let args = texts(alloc, args, path)?;
     let env = test_var(alloc)?;
     Ok(helper_of(alloc, program, args, env))
 }
@@ -67,23 +142,32 @@ fn end_of<M: Machine>(
     alloc: Global,
     program: &str,
     args: &[&str],
+    path: &str,
 ) -> Result<Exit, RunStop> {
-    match helper(alloc, program, args) {
+    match helper(alloc, program, args, path) {
         Ok(child) => m.run(alloc, &child),
         Err(NoMemory) => Err(RunStop::NoMemory),
     }
 }
 
-// How a script of the shell ended, how many bytes of each stream were kept, and whether that is not
-// all.
-fn script<M: Machine>(m: &mut M, alloc: Global, text: &str) -> Option<(Ended, [usize; 2], bool)> {
-    let exit = end_of(m, alloc, "sh", &["-c", text]).ok()?;
-    Some((exit.ended, [exit.out.len(), exit.err.len()], exit.cut))
+// Whether a script of the shell ends like this.
+pub fn ends<M: Machine>(m: &mut M, alloc: Global, line: &str, wanted: &End) -> bool {
+    match end_of(m, alloc, "sh", &["-c", line], "") {
+        Ok(exit) => (exit.ended, [exit.out.len(), exit.err.len()], exit.cut) == *wanted,
+        Err(_) => false,
+    }
 }
 
 // Whether the program ends with 0, puts this out, and nothing on its other stream.
-fn puts<M: Machine>(m: &mut M, alloc: Global, program: &str, args: &[&str], text: &str) -> bool {
-    match end_of(m, alloc, program, args) {
+pub fn puts<M: Machine>(
+    m: &mut M,
+    alloc: Global,
+    program: &str,
+    args: &[&str],
+    path: &str,
+    text: &str,
+) -> bool {
+    match end_of(m, alloc, program, args, path) {
         Ok(exit) => {
             exit.ended == Ended::Code(0)
                 && exit.out.as_slice() == text.as_bytes()
@@ -94,129 +178,68 @@ fn puts<M: Machine>(m: &mut M, alloc: Global, program: &str, args: &[&str], text
     }
 }
 
-fn is_refused<M: Machine>(m: &mut M, alloc: Global, program: &str, args: &[&str]) -> bool {
-    match end_of(m, alloc, program, args) {
+pub fn is_refused<M: Machine>(
+    m: &mut M,
+    alloc: Global,
+    program: &str,
+    args: &[&str],
+    path: &str,
+) -> bool {
+    match end_of(m, alloc, program, args, path) {
         Ok(_) => false,
         Err(stop) => stop == RunStop::Failed,
     }
 }
 
 #[test]
-fn runs_a_program(rt: HostRuntime) {
-    let alloc = rt.alloc();
-    let mut m = Linux::new(rt, alloc);
-    let line = "test -n \"$PATH\" && echo \"$RAUC_TEST\"";
-    let is_run = puts(&mut m, alloc, "echo", &["a  b", "c"], "a  b c\n")
-        && puts(&mut m, alloc, "/bin/sh", &["-c", "cat; pwd >/dev/null"], "")
-        && puts(&mut m, alloc, "sh", &["-c", line], "a value\n");
-    assert!(rt; is_run);
-}
-
-#[test]
-fn tells_how_a_child_ended(rt: HostRuntime) {
-    let alloc = rt.alloc();
-    let mut m = Linux::new(rt, alloc);
-    let ends = (
-        script(&mut m, alloc, "echo a; echo bc >&2; exit 7"),
-        script(&mut m, alloc, "exit 255"),
-        script(&mut m, alloc, "echo a; kill -9 $$"),
+fn runs_children(rt: HostRuntime) {
+    assert_eq!(rt;
+        first_wrong(rt, &rt, &CASES),
+        None,
+        "row and step of the children"
     );
-    let coded = Some((Ended::Code(7), [2, 3], false));
-    let highest = Some((Ended::Code(255), [0, 0], false));
-    let killed = Some((Ended::Signal, [2, 0], false));
-    assert_eq!(rt; ends, (coded, highest, killed));
 }
 
+static WATCHED: [Watch<'static>; 3] = [
+    // it starts no child without pipes
+    (
+        Trouble::Step(PIPED),
+        Case {
+            place: At(""),
+            steps: &[Refused("true", &[])],
+        },
+        Trace::NoChild,
+    ),
+    // a child of which one stream cannot be read is killed before it makes its file
+    (
+        Trouble::Pipe(1),
+        Case {
+            place: New("no-out", ""),
+            steps: &[
+                Refused("sh", &["-c", "exec 2>&-; sleep 1; : >\"$0.late\"", PATH]),
+                Beside(".late", IsGone),
+            ],
+        },
+        Trace::Child,
+    ),
+    (
+        Trouble::Pipe(2),
+        Case {
+            place: New("no-err", ""),
+            steps: &[
+                Refused("sh", &["-c", "sleep 1; : >\"$0.late\"", PATH]),
+                Beside(".late", IsGone),
+            ],
+        },
+        Trace::Child,
+    ),
+];
+
 #[test]
-fn keeps_the_front_of_each_stream(rt: HostRuntime) {
-    let alloc = rt.alloc();
-    let mut m = Linux::new(rt, alloc);
-    let out = "head -c 1048576 /dev/zero; head -c 1048576 /dev/zero >&2; exit 1";
-    let err = "head -c 1048576 /dev/zero >&2; head -c 1048576 /dev/zero; exit 1";
-    let ends = (
-        script(&mut m, alloc, "head -c 65536 /dev/zero"),
-        script(&mut m, alloc, out),
-        script(&mut m, alloc, err),
-        script(&mut m, alloc, "echo a; head -c 65537 /dev/zero >&2"),
+fn ends_children_that_it_cannot_read(rt: HostRuntime) {
+    assert_eq!(rt;
+        first_wrong_watched(rt, &rt, &WATCHED, None),
+        None,
+        "row and step of the children that cannot be read"
     );
-    let whole = Some((Ended::Code(0), [65_536, 0], false));
-    let both = Some((Ended::Code(1), [65_536, 65_536], true));
-    let long = Some((Ended::Code(0), [2, 65_536], true));
-    assert_eq!(rt; ends, (whole, both, both, long));
-}
-
-#[test]
-fn starts_no_program_that_is_not_there(rt: HostRuntime) {
-    let alloc = rt.alloc();
-    let mut m = Linux::new(rt, alloc);
-    let is_none = is_refused(&mut m, alloc, "/proc/self/missing", &[])
-        && is_refused(&mut m, alloc, "rauc-has-no-such-program", &["a"])
-        && is_refused(&mut m, alloc, "/tmp", &[])
-        && is_refused(&mut m, alloc, "echo", &["a\0b"]);
-    assert!(rt; is_none);
-}
-
-#[test]
-fn starts_no_child_without_pipes(rt: HostRuntime) {
-    let mut notes = Notes::new();
-    notes.fails = PIPED;
-    let mut m = Linux::new(Watched { rt, notes: &notes }, rt.alloc());
-    let is_none = is_refused(&mut m, rt.alloc(), "true", &[]);
-    assert_eq!(rt; (is_none, notes.child()), (true, 0));
-}
-
-#[test]
-fn lets_its_files_go_before_a_child(rt: HostRuntime) -> Result<(), Fail> {
-    let alloc = rt.alloc();
-    let image = make_file(&rt, "replaced-by-child", "old bytes")?;
-    let mut m = Linux::new(rt, alloc);
-    let mut piece = [b'_'; 3];
-    let before = (
-        m.read_at(&image, 0, &mut piece),
-        m.write_at(&image, 0, b"OLD"),
-    );
-    assert_eq!(rt; (before, &piece), ((Ok(3), Ok(())), b"old"));
-    let line = "echo new bytes >\"$0.next\" && mv \"$0.next\" \"$0\"";
-    assert!(rt; puts(&mut m, alloc, "sh", &["-c", line, &image], ""));
-    let after = (
-        m.read_at(&image, 0, &mut piece),
-        m.write_at(&image, 0, b"NEW"),
-    );
-    assert_eq!(rt; (after, &piece), ((Ok(3), Ok(())), b"new"));
-    assert!(rt; puts(&mut m, alloc, "cat", &[&image], "NEW bytes\n"));
-    fs::remove_file(&rt, image.as_str())?;
-    Ok(())
-}
-
-// The number of a child of the shell of which one stream cannot be read, and whether it was refused.
-// Its script has a path as its first word.
-fn unread_child<R>(rt: &R, alloc: Global, unread: u32, line: &str, path: &str) -> (u32, bool)
-where
-    R: Files + Processes<Started = SystemProcess> + Threads + Clock,
-    R::File: FileExt + AsRawFd,
-{
-    let mut notes = Notes::new();
-    notes.unread = unread;
-    let mut m = Linux::new(Watched { rt, notes: &notes }, alloc);
-    let is_none = is_refused(&mut m, alloc, "sh", &["-c", line, path]);
-    (notes.child(), is_none)
-}
-
-#[test]
-fn ends_a_child_whose_output_cannot_be_read(rt: HostRuntime) -> Result<(), Fail> {
-    let late = path_of(&rt, "late")?;
-    let mut is_ended = true;
-    for (unread, line) in [
-        (1, "exec 2>&-; sleep 1; : >\"$0\""),
-        (2, "sleep 1; : >\"$0\""),
-    ] {
-        let (id, is_none) = unread_child(&rt, rt.alloc(), unread, line, &late);
-        // it was killed before it made its file, and waited for
-        let entry = format!(in rt.alloc(); "/proc/{id}")?;
-        let is_gone = !fs::exists(&rt, late.as_str())? && !fs::exists(&rt, entry.as_str())?;
-        is_ended = is_ended && is_none && id != 0 && is_gone;
-    }
-    remove_all(&rt, &[&late]);
-    assert!(rt; is_ended);
-    Ok(())
 }

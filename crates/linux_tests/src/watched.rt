@@ -4,8 +4,10 @@ use std::cell::Cell;
 use std::fs::{Metadata, OpenFile, OpenOptions, Permissions};
 use std::io;
 use std::io::{ErrorKind, PipeReader, PipeWriter, Read, Seek, SeekFrom, Write};
-use std::os::fd::{AsRawFd, RawFd};
+use std::os::fd::{AsRawFd, BorrowedFd, RawFd};
 use std::os::unix::fs::FileExt;
+use std::os::unix::net::SocketAddr;
+use std::path::PathBuf;
 use std::process::{Child, Command, OpenProcess, Processes, Stdio};
 use std::rt::Files;
 use std::thread::Threads;
@@ -29,33 +31,43 @@ pub const MODE_SET: u64 = 8;
 
 pub const PIPED: u64 = 9;
 
+// The clock stands still here, in milliseconds since 1970.
+const NOW: u64 = 1_700_000_000_999;
+
 // What was asked for so far, as the digits of a number, and what is to be answered otherwise than by
 // the system.
 #[derive(Drop)]
 pub struct Notes<'a> {
     steps: Cell<u64>,
     child: Cell<u32>,
-    // the step that fails
-    pub fails: u64,
-    // the pipe, counted from 1, of which no read is answered
-    pub unread: u32,
     pipes: Cell<u32>,
-    pub time: Option<Duration>,
+    // the step that fails
+    fails: Cell<u64>,
+    // the pipe, counted from 1, of which no read is answered
+    unread: Cell<u32>,
     // what the files are said to be, by the path of another
-    pub alike: Option<&'a str>,
+    alike: Option<&'a str>,
 }
 
 impl<'a> Notes<'a> {
-    pub fn new() -> Notes<'a> {
+    pub fn new(alike: Option<&'a str>) -> Notes<'a> {
         Notes {
             steps: Cell::new(0),
             child: Cell::new(0),
-            fails: 0,
-            unread: 0,
             pipes: Cell::new(0),
-            time: None,
-            alike: None,
+            fails: Cell::new(0),
+            unread: Cell::new(0),
+            alike,
         }
+    }
+
+    // Begins the notes anew. From now on this step fails, and no read of this pipe is answered.
+    pub fn begin(&self, fails: u64, unread: u32) {
+        self.steps.set(0);
+        self.child.set(0);
+        self.pipes.set(0);
+        self.fails.set(fails);
+        self.unread.set(unread);
     }
 
     pub fn steps(&self) -> u64 {
@@ -70,7 +82,7 @@ impl<'a> Notes<'a> {
     fn note(&self, step: u64) -> io::Result<()> {
         let steps = self.steps.get();
         self.steps.set(steps.wrapping_mul(10).wrapping_add(step));
-        if step == self.fails {
+        if step == self.fails.get() {
             return Err(io::Error::from(ErrorKind::Other));
         }
         Ok(())
@@ -206,12 +218,48 @@ impl<'a, R: Files> Files for Watched<'a, R> {
         self.rt.remove_dir_all(alloc, path)
     }
 
+    fn canonicalize<B: Allocator>(&self, alloc: B, path: &str) -> io::Result<PathBuf<B>> {
+        self.rt.canonicalize(alloc, path)
+    }
+
+    fn read_link<B: Allocator>(&self, alloc: B, path: &str) -> io::Result<PathBuf<B>> {
+        self.rt.read_link(alloc, path)
+    }
+
+    fn hard_link(&self, original: &str, link: &str) -> io::Result<()> {
+        self.rt.hard_link(original, link)
+    }
+
+    fn set_permissions(&self, path: &str, permissions: Permissions) -> io::Result<()> {
+        self.rt.set_permissions(path, permissions)
+    }
+
+    fn symlink(&self, original: &str, link: &str) -> io::Result<()> {
+        self.rt.symlink(original, link)
+    }
+
+    fn chown(&self, path: &str, user: Option<u32>, group: Option<u32>) -> io::Result<()> {
+        self.rt.chown(path, user, group)
+    }
+
+    fn lchown(&self, path: &str, user: Option<u32>, group: Option<u32>) -> io::Result<()> {
+        self.rt.lchown(path, user, group)
+    }
+
+    fn create_dir_with_mode(&self, path: &str, mode: u32) -> io::Result<()> {
+        self.rt.create_dir_with_mode(path, mode)
+    }
+
+    fn bind_unix(&self, socket: BorrowedFd<'_>, addr: &SocketAddr) -> io::Result<()> {
+        self.rt.bind_unix(socket, addr)
+    }
+
     fn pipe(&self) -> io::Result<(PipeReader, PipeWriter)> {
         self.notes.note(PIPED)?;
         let (reader, writer) = self.rt.pipe()?;
         let number = self.notes.pipes.get().wrapping_add(1);
         self.notes.pipes.set(number);
-        if number == self.notes.unread {
+        if number == self.notes.unread.get() {
             // a read that would wait is then an error
             os::set_nonblocking(reader.as_raw_fd(), true);
         }
@@ -229,9 +277,11 @@ impl<'a, R: Processes> Processes for Watched<'a, R> {
         stdout: &Stdio,
         stderr: &Stdio,
     ) -> io::Result<Child<R::Started>> {
-        let started = self.rt.spawn(command, stdin, stdout, stderr)?;
-        self.notes.child.set(started.id());
-        Ok(started)
+        let started = self.rt.spawn(command, stdin, stdout, stderr);
+        if let Ok(child) = &started {
+            self.notes.child.set(child.id());
+        }
+        started
     }
 }
 
@@ -243,9 +293,6 @@ impl<'a, R: Clock> Clock for Watched<'a, R> {
     }
 
     fn since_1970(&self) -> io::Result<Duration> {
-        match self.notes.time {
-            Some(time) => Ok(time),
-            None => self.rt.since_1970(),
-        }
+        Ok(Duration::from_millis(NOW))
     }
 }
