@@ -8,4 +8,6 @@ mod child_tests;
 #[cfg(test)]
 mod setups;
 #[cfg(test)]
+mod steps;
+#[cfg(test)]
 mod stop_tests;

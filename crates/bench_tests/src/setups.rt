@@ -1,8 +1,9 @@
+use crate::steps::{Step, are_right};
 use boot_model::{BootKind, Vars};
-use machine::{CallStop, Machine, Named};
+use machine::{Ended, Named, copy_bytes};
 use machine_bench::{Bench, Script, Setup};
 use std::alloc::Global;
-use undo_log::bytes_of;
+use undo_log::Effect;
 use updater_text::{Items, NoMemory, Text};
 
 pub const DISK: &str = "/dev/disk";
@@ -11,109 +12,188 @@ pub const SPARED: &str = "/dev/spared";
 
 pub const FILE: &str = "/etc/file";
 
-pub fn items(alloc: Global, bytes: &[u8]) -> Result<Items<u8>, NoMemory> {
-    Ok(Items::from_vec(Vec::from_slice(alloc, bytes)?))
+pub const MOUNT: &str = "/bin/mount";
+
+// What a child does to a path, with the bytes 9 and 8.
+pub enum Act {
+    Put,
+    Write(u64),
+    Drop,
 }
 
-pub fn texts(alloc: Global, words: &[&str]) -> Result<Items<Text>, NoMemory> {
-    let mut texts = Items::new(alloc);
+// A script of the program at `MOUNT`: the front of the arguments that it is for, how it ends, how many
+// bytes it puts out, and what it does.
+pub struct Play {
+    pub args: &'static [&'static str],
+    pub ended: Ended,
+    pub out: usize,
+    pub acts: &'static [(Act, &'static str)],
+}
+
+// The numbers of the calls that fail, the number of the one at which the power stops, what children
+// do, and what is done on the bench. Then the power stops, `pick` chooses what that leaves, and `left`
+// is done on it.
+pub struct Case {
+    pub fails: &'static [u64],
+    pub stop: Option<u64>,
+    pub plays: &'static [Play],
+    pub steps: &'static [Step],
+    pub pick: u64,
+    pub left: &'static [Step],
+}
+
+pub const PLAIN: Case = Case {
+    fails: &[],
+    stop: None,
+    plays: &[],
+    steps: &[],
+    pick: 0,
+    left: &[],
+};
+
+pub fn push_texts(texts: &mut Items<Text>, alloc: Global, words: &[&str]) -> bool {
     for word in words {
-        texts.push(Text::new(alloc, word)?)?;
+        let pushed = match Text::new(alloc, word) {
+            Ok(text) => texts.push(text).is_ok(),
+            Err(NoMemory) => false,
+        };
+        if !pushed {
+            return false;
+        }
     }
-    Ok(texts)
+    true
 }
 
-fn named(alloc: Global, path: &str, bytes: &[u8]) -> Result<Named, NoMemory> {
+fn push_named(
+    list: &mut Items<Named>,
+    alloc: Global,
+    path: &str,
+    bytes: &[u8],
+) -> Result<(), NoMemory> {
     let path = Text::new(alloc, path)?;
-    let bytes = items(alloc, bytes)?;
-    Ok(Named { path, bytes })
+    let bytes = copy_bytes(alloc, bytes)?;
+    list.push(Named { path, bytes })
 }
 
-fn two_disks(alloc: Global) -> Result<Items<Named>, NoMemory> {
-    let mut disks = Items::new(alloc);
-    for path in [DISK, SPARED] {
-        disks.push(named(alloc, path, &[1, 2, 3, 4])?)?;
+fn effect(act: &Act, path: Text, bytes: Items<u8>) -> Effect {
+    match act {
+        Act::Put => Effect::PutFile { path, bytes },
+        Act::Write(at) => Effect::WriteDisk {
+            path,
+            at: *at,
+            bytes,
+        },
+        Act::Drop => Effect::DropFiles { prefix: path },
     }
-    Ok(disks)
 }
 
-fn one_file(alloc: Global) -> Result<Items<Named>, NoMemory> {
-    let mut files = Items::new(alloc);
-    files.push(named(alloc, FILE, &[5, 6, 7])?)?;
-    Ok(files)
-}
-
-// Two disks of four bytes and a file of three.
-fn small_setup(alloc: Global, fails: &[u64], stop: Option<u64>) -> Result<Setup, NoMemory> {
-    let disks = two_disks(alloc)?;
-    let files = one_file(alloc)?;
-    let fails = Items::from_vec(Vec::from_slice(alloc, fails)?);
-    Ok(Setup {
-        disks,
-        files,
-        boot: BootKind::Noop,
-        vars: Vars::new(alloc),
-        scripts: Items::new(alloc),
-        fails,
-        stop,
-        now: 1_714_564_800,
-    })
-}
-
-pub fn small_bench(alloc: Global, fails: &[u64], stop: Option<u64>) -> Result<Bench, NoMemory> {
-    Bench::new(alloc, small_setup(alloc, fails, stop)?)
-}
-
-pub fn scripted(alloc: Global, scripts: Items<Script>, fails: &[u64]) -> Result<Bench, NoMemory> {
-    let mut setup = small_setup(alloc, fails, None)?;
-    setup.scripts = scripts;
-    Bench::new(alloc, setup)
-}
-
-// The calls, of which the tests see the answers alone.
-pub fn write(m: &mut Bench, at: u64, from: &[u8]) -> Result<(), CallStop> {
-    let count = from.len() as u64;
-    if at < 9 && count < 9 && m.has_room(DISK, at + count) {
-        return m.write_at(DISK, at, from);
+fn push_effects(
+    effects: &mut Items<Effect>,
+    alloc: Global,
+    acts: &[(Act, &str)],
+) -> Result<(), NoMemory> {
+    for (act, path) in acts {
+        let path = Text::new(alloc, path)?;
+        let bytes = copy_bytes(alloc, &[9, 8])?;
+        effects.push(effect(act, path, bytes))?;
     }
     Ok(())
 }
 
-pub fn sync(m: &mut Bench, path: &str) -> Result<(), CallStop> {
-    m.sync(path)
+fn push_script(
+    scripts: &mut Items<Script>,
+    alloc: Global,
+    play: &Play,
+    program: Text,
+    out: Vec<u8>,
+) -> bool {
+    let mut script = Script {
+        program,
+        args: Items::new(alloc),
+        ended: play.ended,
+        out: Items::from_vec(out),
+        err: Items::new(alloc),
+        effects: Items::new(alloc),
+    };
+    let filled = push_texts(&mut script.args, alloc, play.args)
+        && push_effects(&mut script.effects, alloc, play.acts).is_ok();
+    scripts.push(script).is_ok() && filled
 }
 
-fn has(list: &[Named], path: &str, bytes: &[u8]) -> bool {
-    match bytes_of(list, path) {
-        Some(there) => there == bytes,
-        None => false,
+fn push_scripts(
+    scripts: &mut Items<Script>,
+    alloc: Global,
+    plays: &[Play],
+) -> Result<(), NoMemory> {
+    for play in plays {
+        let program = Text::new(alloc, MOUNT)?;
+        let out = vec![in alloc; 7; play.out]?;
+        if !push_script(scripts, alloc, play, program, out) {
+            return Err(NoMemory);
+        }
+    }
+    Ok(())
+}
+
+fn push_numbers(numbers: &mut Items<u64>, more: &[u64]) -> Result<(), NoMemory> {
+    for number in more {
+        numbers.push(*number)?;
+    }
+    Ok(())
+}
+
+fn empty_setup(alloc: Global, stop: Option<u64>) -> Setup {
+    Setup {
+        disks: Items::new(alloc),
+        files: Items::new(alloc),
+        boot: BootKind::Noop,
+        vars: Vars::new(alloc),
+        scripts: Items::new(alloc),
+        fails: Items::new(alloc),
+        stop,
+        now: 1_714_564_800,
     }
 }
 
-pub fn disk_is(m: &Bench, path: &str, bytes: &[u8]) -> bool {
-    match m.world() {
-        Ok(world) => has(world.disks.as_slice(), path, bytes),
+// Two disks of four bytes and a file of three.
+fn fill_setup(setup: &mut Setup, alloc: Global, case: &Case) -> bool {
+    push_named(&mut setup.disks, alloc, DISK, &[1, 2, 3, 4]).is_ok()
+        && push_named(&mut setup.disks, alloc, SPARED, &[1, 2, 3, 4]).is_ok()
+        && push_named(&mut setup.files, alloc, FILE, &[5, 6, 7]).is_ok()
+        && push_numbers(&mut setup.fails, case.fails).is_ok()
+        && push_scripts(&mut setup.scripts, alloc, case.plays).is_ok()
+}
+
+fn is_right_after_stop(m: Bench, alloc: Global, case: &Case) -> bool {
+    match m.after_stop(case.pick) {
+        Ok(mut left) => {
+            let right = are_right(&mut left, alloc, case.left);
+            // (a `drop` is proved faster than the end of a block)
+            drop(left);
+            right
+        }
         Err(NoMemory) => false,
     }
 }
 
-pub fn file_is(m: &Bench, path: &str, bytes: &[u8]) -> bool {
-    match m.world() {
-        Ok(world) => has(world.files.as_slice(), path, bytes),
+fn is_right(alloc: Global, case: &Case) -> bool {
+    let mut setup = empty_setup(alloc, case.stop);
+    let filled = fill_setup(&mut setup, alloc, case);
+    match Bench::new(alloc, setup) {
+        Ok(mut m) => {
+            let right = filled && are_right(&mut m, alloc, case.steps);
+            is_right_after_stop(m, alloc, case) && right
+        }
         Err(NoMemory) => false,
     }
 }
 
-// How many ranges are pending, writes and runs were made, calls were numbered and calls failed.
-pub fn counts(m: &Bench) -> [u64; 5] {
-    match m.world() {
-        Ok(world) => [
-            world.pending.len() as u64,
-            world.writes.len() as u64,
-            world.runs.len() as u64,
-            m.calls(),
-            m.faults(),
-        ],
-        Err(NoMemory) => [9; 5],
+// The row of the first case that is not as it should be.
+pub fn first_wrong(alloc: Global, cases: &[Case]) -> Option<usize> {
+    for (row, case) in cases.iter().enumerate() {
+        if !is_right(alloc, case) {
+            return Some(row);
+        }
     }
+    None
 }
