@@ -1,0 +1,9 @@
+pub mod Causes
+pub mod Contents
+pub mod Hooked
+pub mod Images
+pub mod KeyTable
+pub mod Mandatory
+pub mod Reads
+pub mod Refusals
+pub mod Sound
