@@ -10,22 +10,34 @@ mkdir -p build
 seen=build/gate_cost.seen
 : > "$seen"
 
-# The processes that this one has begun, and those that they have.
-descendants() {
-  ps -eo pid=,ppid= | awk -v top="$1" '
-    { parent[$1] = $2 }
+# For each prover that this process has begun: its number and start, its crate, what it is run for, and
+# the ticks so far of it and of all that it has begun.
+sample() {
+  cat /proc/[0-9]*/stat 2> /dev/null | awk -v gate="$1" '
+    {
+      name = $0
+      sub(/^[^(]*[(]/, "", name)
+      sub(/[)][^)]*$/, "", name)
+      rest = $0
+      sub(/.*[)] /, "", rest)
+      split(rest, field, " ")
+      prover[$1] = name == "rattle"
+      parent[$1] = field[2]
+      start[$1] = field[20]
+      ticks[$1] = field[12] + field[13] + field[14] + field[15]
+    }
     END {
       for (process in parent) {
-        for (at = process; at in parent; at = parent[at]) if (at == top) { print process; break }
+        first = ""
+        inside = 0
+        for (at = process; at in parent; at = parent[at]) {
+          if (prover[at]) first = at
+          if (at == gate) inside = 1
+        }
+        if (inside && first != "") sum[first] += ticks[process]
       }
-    }'
-}
-
-# For each prover: its number and start, its crate, what it is run for, and its ticks so far, with those
-# of its children that have ended.
-sample() {
-  for process in $(descendants "$1"); do
-    [ "$(cat "/proc/$process/comm" 2> /dev/null)" = rattle ] || continue
+      for (process in sum) print process, start[process], sum[process]
+    }' | while read -r process start ticks; do
     { words=$(tr '\0' ' ' < "/proc/$process/cmdline"); } 2> /dev/null || continue
     crate=$(sed -n 's/.*--crate-name \([a-z0-9_]*\).*/\1/p' <<< "$words")
     [ -n "$crate" ] || continue
@@ -34,9 +46,7 @@ sample() {
       *--test*) purpose=tests ;;
       *) purpose=proof ;;
     esac
-    sed 's/.*) //' "/proc/$process/stat" 2> /dev/null |
-      awk -v key="$process" -v crate="$crate" -v purpose="$purpose" \
-        '{ print key "." $20, crate, purpose, $12 + $13 + $14 + $15 }'
+    echo "$process.$start $crate $purpose $ticks"
   done
 }
 
