@@ -5,3 +5,4 @@ pub mod Joins
 pub mod Sparing
 pub mod Reading
 pub mod Only
+pub mod Running

@@ -4,4 +4,5 @@ pub mod Spares
 pub mod Past
 pub mod Calls
 pub mod Frames
+pub mod Runs
 pub mod Stops

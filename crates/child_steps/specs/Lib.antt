@@ -1,0 +1,4 @@
+pub mod Bundle
+pub mod Children
+pub mod Closing
+pub mod Mounting

@@ -1,0 +1,17 @@
+//! The programs that check, mount and unmount a bundle, as children of the machine.
+#![tactic(auto)]
+
+mod bundle;
+mod close;
+mod helper;
+mod mount;
+mod mounted;
+mod refusal;
+mod spared;
+
+pub use bundle::{BundleRefusal, read_bundle};
+pub use close::{Closing, close_bundle};
+pub use helper::{check_child, mount_child, mount_point, umount_child};
+pub use mount::mount_bundle;
+pub use mounted::Mounted;
+pub use refusal::MountRefusal;
