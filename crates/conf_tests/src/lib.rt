@@ -1,9 +1,7 @@
-//! Tests of key files, the forms of their values, the configuration of a system, manifests and
-//! what is told of them, and boot variables.
+//! Tests of key files, the forms of their values, the configuration of a system, manifests, and
+//! boot variables.
 #![tactic(auto)]
 
-#[cfg(test)]
-mod info_tests;
 #[cfg(test)]
 mod keyfile_tests;
 #[cfg(test)]
