@@ -1,9 +1,8 @@
 -- The manifest's file.
-use Rattle.std.proofs.Common.{◌≡◌, ◌<◌, ℕ, Bool, true, List, length, Option, Some, None, Result, Ok, Err, IsTrue, refl, sym, ◌∙◌, ap, subst, arith, nat_lt}
+use Rattle.std.proofs.Common.{◌≡◌, ◌<◌, ℕ, true, List, length, Option, Some, None, Result, Err, refl, sym, ◌∙◌, ap, subst, arith, nat_lt}
 use Rattle.std.proofs.lemmas.Bool.Decides.{nat_tests}
 use Rattle.machine.specs.declared.stops.Stop.{Stop}
 use Rattle.keyfile.specs.declared.fault.KeyFault.TheVariants as key
-use Rattle.manifest.specs.Contents.{Content}
 use Rattle.manifest.specs.declared.content.Manifest.{Manifest}
 use Rattle.child_steps.specs.declared.bundle.BundleRefusal.{BundleRefusal}
 use Rattle.child_steps.specs.declared.bundle.BundleRefusal.TheVariants.{NoManifest, BadKeys}

@@ -1,5 +1,5 @@
 -- A bundle is checked and mounted, by one child after the other.
-use Rattle.std.proofs.Common.{◌≡◌, ◌⊎◌, ◌||◌, inl, inr, ℕ, Bool, true, false, List, [], ◌∷◌, ◌++◌, Option, Some, None, Result, Ok, Err, IsTrue, refl, sym, ◌∙◌, ap, subst}
+use Rattle.std.proofs.Common.{◌≡◌, ◌||◌, inl, inr, Bool, true, false, List, [], ◌∷◌, ◌++◌, Result, Ok, Err, IsTrue, refl, sym, subst}
 use Rattle.std.specs.List.{list_any}
 use Rattle.std.specs.Option.{option_to_list}
 use Rattle.std.specs.Prelude.{bytes_eq, codes}
@@ -7,20 +7,16 @@ use Rattle.std.proofs.lemmas.Bool.{true≢false}
 use Rattle.updater_text.specs.Paths.{is_within}
 use Rattle.keyfile.specs.Groups.{Text}
 use Rattle.machine.specs.Spares.{is_boot}
-use Rattle.machine.specs.declared.stops.Fault.TheVariants as fault
 use Rattle.machine.specs.declared.stops.Stop.{Stop}
 use Rattle.machine.specs.declared.stops.Stop.TheVariants as stop
 use Rattle.machine.specs.declared.world.Child.{Child}
 use Rattle.machine.specs.declared.world.Ended.{Ended}
-use Rattle.machine.specs.declared.world.ChildClass.TheVariants.{Helper}
-use Rattle.machine.specs.declared.world.RunNote.{RunNote}
-use Rattle.machine.specs.declared.world.Spares.{Spares}
 use Rattle.machine.specs.Past.{Past}
-use Rattle.machine.specs.Runs.{RunSince, SparesThese, has_disk, has_file}
+use Rattle.machine.specs.Runs.{RunSince, SparesThese}
 use Rattle.machine.proofs.Running.{run_since_joins}
 use Rattle.system_conf.specs.Configuration.{Configuration}
 use Rattle.child_steps.specs.Children.{check_child, helper_spares, mount_child, mount_point}
-use Rattle.child_steps.specs.Mounting.{BeforeTheMount, MountEnds, OneRun, StepEnds, TwoRuns, succeeded}
+use Rattle.child_steps.specs.Mounting.{MountEnds, OneRun, StepEnds, TwoRuns, succeeded}
 use Rattle.child_steps.specs.declared.mounted.Mounted.{Mounted}
 use Rattle.child_steps.specs.declared.refusal.MountRefusal.{MountRefusal}
 use Rattle.child_steps.specs.declared.refusal.MountRefusal.TheVariants.{Untrusted, MountFailed}

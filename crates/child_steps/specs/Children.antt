@@ -1,5 +1,5 @@
 -- The programs that check, mount and unmount a bundle: each as the child that is run.
-use Rattle.std.specs.Prelude.{List, [], ◌∷◌, ◌++◌, true, codes, map, Option}
+use Rattle.std.specs.Prelude.{List, [], ◌∷◌, ◌++◌, true, codes, map}
 use Rattle.std.specs.Option.{option_to_list}
 use Rattle.keyfile.specs.Groups.{Text}
 use Rattle.machine.specs.declared.world.Child.{Child}

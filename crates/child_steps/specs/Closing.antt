@@ -1,11 +1,10 @@
 -- How a bundle is unmounted.
-use Rattle.std.specs.Prelude.{◌≡◌, ◌≤◌, ◌==◌, ℕ, Bool, IsTrue, Option, Some, None, if◌then◌else◌}
+use Rattle.std.specs.Prelude.{◌≡◌, ◌≤◌, ◌==◌, ℕ, if◌then◌else◌}
 use Rattle.updater_text.specs.Counts.{CountRose}
-use Rattle.machine.specs.declared.stops.Fault.TheVariants as fault
 use Rattle.machine.specs.declared.world.Child.{Child}
 use Rattle.machine.specs.declared.world.Ended.{Ended}
 use Rattle.machine.specs.declared.world.Ended.TheVariants.{Code, Signal}
-use Rattle.machine.specs.Past.{Past, Fails, IsCall, Run, Broken}
+use Rattle.machine.specs.Past.{Past, IsCall, Run, Broken}
 use Rattle.child_steps.specs.Mounting.{OneRun, succeeded}
 use Rattle.child_steps.specs.declared.close.Closing.{Closing}
 use Rattle.child_steps.specs.declared.close.Closing.TheVariants as closing

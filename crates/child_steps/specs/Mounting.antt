@@ -1,5 +1,5 @@
 -- How a bundle is mounted and unmounted, by the children that were run.
-use Rattle.std.specs.Prelude.{◌≡◌, ◌⊎◌, ℕ, Bool, IsTrue, List, [], ◌∷◌, Option, Some, None, Result, Ok, Err}
+use Rattle.std.specs.Prelude.{◌≡◌, ◌⊎◌, Bool, [], ◌∷◌, Option, Some, None, Result, Ok, Err}
 use Rattle.keyfile.specs.Groups.{Text}
 use Rattle.machine.specs.declared.calls.RunStop.{RunStop}
 use Rattle.machine.specs.declared.calls.RunStop.TheVariants as run
@@ -9,7 +9,7 @@ use Rattle.machine.specs.declared.stops.Stop.{Stop}
 use Rattle.machine.specs.declared.stops.Stop.TheVariants as stop
 use Rattle.machine.specs.declared.world.Child.{Child}
 use Rattle.machine.specs.declared.world.Ended.{Ended}
-use Rattle.machine.specs.declared.world.Ended.TheVariants.{Code, Signal}
+use Rattle.machine.specs.declared.world.Ended.TheVariants.{Code}
 use Rattle.machine.specs.declared.world.Exit.{Exit}
 use Rattle.machine.specs.Past.{Past, Fails}
 use Rattle.machine.specs.Runs.{RunSince}

@@ -1,5 +1,5 @@
 -- The mandatory keys of a manifest, one after another.
-use Rattle.std.proofs.Common.{◌≡◌, List, [], ◌∷◌, ◌++◌, Option, Some, None, codes, refl, sym, ◌∙◌, ap}
+use Rattle.std.proofs.Common.{◌≡◌, List, [], ◌∷◌, Option, Some, None, codes, refl, sym, ◌∙◌, ap}
 use Rattle.std.specs.Prelude.{flat_map}
 use Rattle.keyfile.specs.Groups.{Text, Group}
 use Rattle.conf_forms.specs.Lists.{first_of, or_else}

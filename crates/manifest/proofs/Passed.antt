@@ -1,19 +1,18 @@
 -- What holds of a manifest that is not refused.
-use Rattle.std.proofs.Common.{◌≡◌, ◌<◌, ℕ, zero, suc, arith, Bool, true, false, cond, eqb, not, ◌&&◌, ◌||◌, List, [], ◌∷◌, ◌++◌, length, get_or, map, filter, find, take, drop, nat_eq, Option, Some, None, codes, option_map, option_and_then, refl, sym, ◌∙◌, ap, subst, slice_get, take-append-drop}
+use Rattle.std.proofs.Common.{◌≡◌, ◌<◌, ℕ, zero, suc, arith, Bool, true, false, cond, eqb, not, ◌&&◌, ◌||◌, List, [], ◌∷◌, ◌++◌, length, get_or, map, filter, find, take, drop, nat_eq, Option, Some, None, codes, option_map, option_and_then, refl, sym, ◌∙◌, ap, subst, take-append-drop}
 use Rattle.std.specs.Prelude.{is_none, is_some, unwrap_or}
 use Rattle.std.specs.Option.{option_map_or}
 use Rattle.std.specs.List.{before_first, list_all, list_any, starts_with}
 use Rattle.std.specs.Str.{bytes_eq}
 use Rattle.std.proofs.lemmas.Bool.{and_parts, true≢false}
-use Rattle.std.proofs.lemmas.Option.{slice_get-get_or}
 use Rattle.std.proofs.lemmas.Slice.Eq.{bytes_eq-Decides}
 use Rattle.updater_text.specs.Digests.{digest_of}
 use Rattle.updater_text.specs.Numbers.{number_of}
 use Rattle.updater_text.specs.declared.digest.Digest.{Digest}
 use Rattle.keyfile.specs.Groups.{Entry, Group, Text, get_entry, get_in, is_entry, is_entry_value, is_group, is_key_file}
 use Rattle.conf_forms.specs.Classes.{is_class}
-use Rattle.conf_forms.specs.Forms.{accepts, is_text}
-use Rattle.conf_forms.specs.Lists.{first_of, or_else, value_beside}
+use Rattle.conf_forms.specs.Forms.{accepts}
+use Rattle.conf_forms.specs.Lists.{first_of, value_beside}
 use Rattle.conf_forms.specs.Tables.{form_by, form_of, keyed}
 use Rattle.conf_forms.specs.Tables as table
 use Rattle.conf_forms.specs.Walks.{first_bad, missing_key}
@@ -25,10 +24,10 @@ use Rattle.manifest.specs.Contents.{ImageContent, image_of, images_of}
 use Rattle.manifest.specs.Hooked.{has_hook_file, is_hooked}
 use Rattle.manifest.specs.Reads.{image_contents}
 use Rattle.manifest.specs.declared.image.Image.{Image}
-use Rattle.manifest.specs.Images.{class_of, digest_in, file_of, has_any_hook, has_hook, has_install_check, image_groups, is_hook_named, is_image_group, is_without_file, size_of}
-use Rattle.manifest.specs.KeyTable.{image_keys, image_rule, manifest_table}
+use Rattle.manifest.specs.Images.{class_of, file_of, has_any_hook, has_hook, has_install_check, image_groups, is_hook_named, is_image_group, is_without_file}
+use Rattle.manifest.specs.KeyTable.{image_keys, manifest_table}
 use Rattle.manifest.specs.Mandatory as mandatory
-use Rattle.manifest.specs.Refusals.{bad_digest, bad_name, bad_value, first_refusal, has_bad_digest, left_out, missing, no_images, too_many_images, undigested, unknown_key}
+use Rattle.manifest.specs.Refusals.{bad_digest, bad_name, bad_value, first_refusal, left_out, missing, undigested, unknown_key}
 use Rattle.manifest.specs.Sound.{are_bundle_texts, has_source, is_bundle_text, is_text_if_any}
 use Rattle.manifest.specs.declared.image.ImageFile.{ImageFile}
 use Rattle.manifest.specs.declared.refusal.ManifestRefusal.TheVariants as refusal

@@ -1,5 +1,5 @@
 -- A bundle that was mounted is read and unmounted.
-use Rattle.std.proofs.Common.{◌≡◌, ◌≤◌, ℕ, Bool, List, [], Option, Some, None, Result, Ok, Err, IsTrue, refl, sym, ◌∙◌, ap, subst, arith}
+use Rattle.std.proofs.Common.{◌≡◌, ◌≤◌, ℕ, Bool, Option, Result, Ok, Err, refl, subst, arith}
 use Rattle.updater_text.specs.Counts.{CountRose}
 use Rattle.machine.specs.declared.stops.Fault.{Fault}
 use Rattle.machine.specs.declared.stops.Stop.{Stop}

@@ -1,5 +1,5 @@
 -- Lines of a readable text, and assignments for a shell.
-use Rattle.std.specs.Prelude.{ℕ, nat_lt, List, [], ◌++◌, codes, decimal, map, Option, if◌then◌else◌}
+use Rattle.std.specs.Prelude.{ℕ, nat_lt, [], ◌++◌, codes, decimal, map, Option, if◌then◌else◌}
 use Rattle.std.specs.Option.{option_map_or}
 use Rattle.updater_text.specs.Quotes.{quote_of}
 use Rattle.keyfile.specs.Groups.{Text}

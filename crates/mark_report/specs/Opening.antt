@@ -1,5 +1,5 @@
 -- How a bundle is opened to tell of it.
-use Rattle.std.specs.Prelude.{◌≡◌, ◌≤◌, ◌⊎◌, ℕ, Bool, Result, Ok, Err}
+use Rattle.std.specs.Prelude.{◌≡◌, ◌⊎◌, ℕ, Bool, Result, Ok, Err}
 use Rattle.updater_text.specs.Counts.{CountRose}
 use Rattle.keyfile.specs.Groups.{Text}
 use Rattle.machine.specs.declared.stops.Stop.{Stop}

@@ -1,4 +1,4 @@
-use Rattle.std.proofs.Common.{◌∙◌, ap}
+use Rattle.std.proofs.Common.{◌∙◌}
 use Rattle.manifest.proofs.Passed.{texts_formed}
 use Rattle.manifest.proofs.bundle.read_bundle_text.Goals as goal
 
