@@ -185,6 +185,14 @@ fn refuses_manifests(rt: HostRuntime) -> Result<(), Fail> {
     Ok(())
 }
 
+// The bundles below.
+#[derive(Clone, Copy)]
+enum Kind {
+    Plain,
+    Verity,
+    Hooked,
+}
+
 // An image, as it has to be read: its class, its file's name and length, its hooks in their order, and
 // whether it is adaptive.
 type Row = (&'static str, Option<(&'static str, u64)>, [bool; 3], bool);
@@ -242,6 +250,38 @@ adaptive=none;block-hash-index;
 [meta.acme]
 ticket=1234
 ";
+
+// A plain bundle of one image, with words of two vendors.
+const PLAIN: &str = "[update]
+compatible=Acme Gateway
+version=7
+
+[bundle]
+format=plain
+
+[hooks]
+filename=hook.sh
+
+[image.rootfs]
+filename=core-image.squashfs
+size=52428800
+sha256=ba7816bf8f01cfea414140de5dae2223b00361a396177a9cb410ff61f20015ad
+hooks=post-install
+
+[meta.acme]
+release-notes=https://example.com/7
+channel=stable
+
+[meta.example]
+signed-by=someone
+";
+
+static PLAIN_IMAGES: [Row; 1] = [(
+    "rootfs",
+    Some(("core-image.squashfs", 52_428_800)),
+    [false, false, true],
+    false,
+)];
 
 static VERITY_IMAGES: [Row; 2] = [
     (
@@ -308,6 +348,15 @@ fn is_verity(manifest: &Manifest) -> bool {
     }
 }
 
+fn is_plain(manifest: &Manifest) -> bool {
+    let bundle = &manifest.bundle;
+    let quiet = bundle.description.is_none() && bundle.build.is_none();
+    match &bundle.version {
+        Some(version) => version.as_str() == "7" && quiet && !manifest.install_check,
+        None => false,
+    }
+}
+
 fn is_hooked(manifest: &Manifest) -> bool {
     match &manifest.hook_file {
         Some(file) => file.as_str() == "hook.sh" && manifest.install_check,
@@ -315,24 +364,24 @@ fn is_hooked(manifest: &Manifest) -> bool {
     }
 }
 
-fn reads(alloc: Global, file: &KeyFile, rows: &[Row], hooked: bool) -> bool {
+fn reads(alloc: Global, file: &KeyFile, rows: &[Row], kind: Kind) -> bool {
     match read_manifest(alloc, file) {
         Ok(manifest) => {
             let named = manifest.bundle.compatible.as_str() == "Acme Gateway";
-            let kind = if hooked {
-                is_hooked(&manifest)
-            } else {
-                is_verity(&manifest)
+            let right = match kind {
+                Kind::Plain => is_plain(&manifest),
+                Kind::Verity => is_verity(&manifest),
+                Kind::Hooked => is_hooked(&manifest),
             };
-            named && kind && has_images(alloc, &manifest, rows)
+            named && right && has_images(alloc, &manifest, rows)
         }
         Err(_) => false,
     }
 }
 
-fn is_read(alloc: Global, text: &str, rows: &[Row], hooked: bool) -> bool {
+fn is_read(alloc: Global, text: &str, rows: &[Row], kind: Kind) -> bool {
     match read(alloc, text.as_bytes()) {
-        Ok(file) => reads(alloc, &file, rows, hooked),
+        Ok(file) => reads(alloc, &file, rows, kind),
         Err(_) => false,
     }
 }
@@ -340,7 +389,8 @@ fn is_read(alloc: Global, text: &str, rows: &[Row], hooked: bool) -> bool {
 #[test]
 fn reads_manifests(rt: HostRuntime) -> Result<(), Fail> {
     let alloc = rt.alloc();
-    assert!(rt; is_read(alloc, VERITY, &VERITY_IMAGES, false));
-    assert!(rt; is_read(alloc, HOOKED, &HOOKED_IMAGES, true));
+    assert!(rt; is_read(alloc, PLAIN, &PLAIN_IMAGES, Kind::Plain));
+    assert!(rt; is_read(alloc, VERITY, &VERITY_IMAGES, Kind::Verity));
+    assert!(rt; is_read(alloc, HOOKED, &HOOKED_IMAGES, Kind::Hooked));
     Ok(())
 }
