@@ -4,7 +4,7 @@ use Rattle.updater_text.specs.Counts.{CountRose}
 use Rattle.keyfile.specs.Groups.{Text}
 use Rattle.machine.specs.declared.stops.Stop.{Stop}
 use Rattle.machine.specs.declared.stops.Stop.TheVariants as stop
-use Rattle.machine.specs.Past.{Past, Fails, world_now}
+use Rattle.machine.specs.Past.{Past, Fails, Grows, world_now}
 use Rattle.machine.specs.Stops.{StopCounted, stop_fault}
 use Rattle.manifest.specs.Contents.{Content}
 use Rattle.manifest.specs.Reads.{manifest_content}
@@ -50,9 +50,11 @@ LoadsInfo meaning (Err (stop.Refused (Bundle refusal))) = meaning ≡ Err refusa
 LoadsInfo meaning (Err (stop.Outside kind)) = Unit {0}
 LoadsInfo meaning (Err stop.NoMemory) = Unit {0}
 
--- the manifest of a bundle that was mounted was read, which changed nothing, and then the bundle was unmounted; the call that failed before the unmount is the one that is told
+-- the manifest of a bundle that was mounted was read, which changed nothing, and from that past on the bundle was unmounted; the call that failed before the unmount is the one that is told
 pub record ReadEnds (tells : Bool) (c : Configuration) (old new : Past) (end : InfoEnd) : Type 0 where
   pub read : Past
+  pub reads : Grows old read
+  pub closes : Grows read new
   pub same : world_now read ≡ world_now old
   pub answer : LoadsInfo (bundle_at c (world_now old)) end.result
   pub fails : Fails tells old read (stop_fault end.result)
@@ -64,9 +66,10 @@ pub record NotOpened (tells : Bool) (c : Configuration) (bundle : Text) (old new
   pub stopped : MountStopped c bundle old new end.result
   pub fails : Fails tells old new (stop_fault end.result)
 
--- the bundle was mounted, and then read and unmounted
+-- the bundle was mounted, and from that past on read and unmounted
 pub record Opened (tells : Bool) (c : Configuration) (bundle : Text) (old new : Past) (end : InfoEnd) : Type 0 where
   pub mounted : Past
+  pub mounts : Grows old mounted
   pub runs : TwoRuns (check_child c bundle) (mount_child c bundle) succeeded succeeded old mounted
   pub rest : ReadEnds tells c mounted new end
 

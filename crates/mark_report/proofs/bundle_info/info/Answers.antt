@@ -11,6 +11,7 @@ returns-in-Ok-clause-kept g c =
 pub returns-in-Ok-clause-ends : goal.returns-in-Ok-clause-ends
 returns-in-Ok-clause-ends g c = λ told. inr (record {
   mounted = g.M.Machine.past c.mount_bundle.new.m;
+  mounts = (c.in-Ok.ensures.kept.all told).grows;
   runs = c.in-Ok.ensures.ends told;
   rest = c.read_mounted.ensures.ends told;
 })

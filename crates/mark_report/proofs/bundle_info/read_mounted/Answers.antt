@@ -19,6 +19,8 @@ pub returns-clause-ends : goal.returns-clause-ends
 returns-clause-ends g c =
     rw c.bundle_result.ensures (λ told. record {
       read = g.M.Machine.past c.read_bundle-read.new.m;
+      reads = (c.read_bundle-read.ensures.unchanged.all told).grows;
+      closes = (c.close_bundle-closing.ensures.kept.all told).grows;
       same = now_unchanged g.M.Machine.tells (g.M.Machine.past c.args.m.now) (g.M.Machine.past c.read_bundle-read.new.m) c.read_bundle-read.ensures.unchanged told;
       answer = loads_as _ c.read_bundle-read.result (c.read_bundle-read.ensures.answers told);
       fails = fails_as _ _ _ c.read_bundle-read.result c.read_bundle-read.ensures.fails;
