@@ -9,8 +9,8 @@ use Rattle.manifest.specs.declared.content.Manifest.{Manifest}
 use Rattle.manifest.specs.declared.image.Image.{Image}
 use Rattle.manifest.specs.declared.image.ImageFile.{ImageFile}
 use Rattle.mark_report.specs.Lines.{line, line_if_any, number_line, numbered, setting}
-use Rattle.mark_report.specs.declared.form.Form.{Form}
-use Rattle.mark_report.specs.declared.form.Form.TheVariants as form
+use Rattle.updater_text.specs.declared.form.Form.{Form}
+use Rattle.updater_text.specs.declared.form.Form.TheVariants as form
 
 -- ---- for a reader
 

@@ -2,12 +2,11 @@
 #![tactic(auto)]
 
 mod bundle_info;
-mod form;
 mod lines;
 mod readable;
 mod shell;
 mod text;
 
 pub use bundle_info::{InfoEnd, InfoRefusal, info};
-pub use form::Form;
 pub use text::info_text;
+pub use updater_text::Form;

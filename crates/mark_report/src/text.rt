@@ -1,12 +1,11 @@
 ghost use Rattle.std.specs.Prelude.{◌≡◌, IfOk};
 ghost use Rattle.mark_report.specs.Info as spec;
 
-use crate::Form;
 use crate::readable::write_readable;
 use crate::shell::write_shell;
 use manifest::Manifest;
 use std::alloc::Global;
-use updater_text::NoMemory;
+use updater_text::{Form, NoMemory};
 
 /// What a manifest says, as text: of the bundle, and of each of its images in file order.
 pub fn info_text(alloc: Global, manifest: &Manifest, form: Form) -> Result<Vec<u8>, NoMemory>

@@ -3,6 +3,7 @@
 
 mod digest;
 mod flag;
+mod form;
 mod items;
 mod memory_sink;
 mod number;
@@ -16,6 +17,7 @@ mod writer_sink;
 
 pub use digest::Digest;
 pub use flag::read_flag;
+pub use form::Form;
 pub use items::Items;
 pub use memory_sink::MemorySink;
 pub use number::read_number;
