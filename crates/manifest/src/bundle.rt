@@ -7,7 +7,7 @@ ghost use Rattle.manifest.specs.Refusals.{bad_value};
 use crate::BundleText;
 use keyfile::KeyFile;
 use std::alloc::Global;
-use updater_text::{NoMemory, Text};
+use updater_text::{NoMemory, Text, text_if_any};
 
 /// What the bundle of a manifest with no bad value says of itself.
 pub fn read_bundle_text(alloc: Global, file: &KeyFile) -> Result<BundleText, NoMemory>
@@ -17,9 +17,9 @@ pub fn read_bundle_text(alloc: Global, file: &KeyFile) -> Result<BundleText, NoM
     // The texts of a key file have the form of its values.
     file.reads_back();
     let compatible = Text::new(alloc, compatible_of(file))?;
-    let version = update_text(alloc, file, "version")?;
-    let description = update_text(alloc, file, "description")?;
-    let build = update_text(alloc, file, "build")?;
+    let version = text_if_any(alloc, file.get("update", "version"))?;
+    let description = text_if_any(alloc, file.get("update", "description"))?;
+    let build = text_if_any(alloc, file.get("update", "build"))?;
     Ok(BundleText {
         compatible,
         version,
@@ -33,14 +33,4 @@ fn compatible_of(file: &KeyFile) -> &str
     ensures { result.now ≡ unwrap_or (get_in file.entry.now (codes "update") (codes "compatible")) [] }
 {
     file.get("update", "compatible").unwrap_or("")
-}
-
-// The text at a key of `[update]`, where there is one.
-fn update_text(alloc: Global, file: &KeyFile, key: &str) -> Result<Option<Text>, NoMemory>
-    ensures { IfOk result (λ text. text ≡ get_in file.now (codes "update") key.now) }
-{
-    match file.get("update", key) {
-        Some(text) => Ok(Some(Text::new(alloc, text)?)),
-        None => Ok(None),
-    }
 }

@@ -1,5 +1,4 @@
-ghost use Rattle.std.specs.Prelude.{◌≡◌, None, IfOk, codes};
-ghost use Rattle.keyfile.specs.Groups.{get_in};
+ghost use Rattle.std.specs.Prelude.{◌≡◌, None, IfOk};
 ghost use Rattle.manifest.specs.Contents.{content};
 ghost use Rattle.manifest.specs.Images.{image_groups};
 ghost use Rattle.manifest.specs.Reads.{Checks, Reads, manifest_content};
@@ -13,7 +12,7 @@ use crate::keys::{bad_value, left_out, missing, unknown_key};
 use crate::{Manifest, ManifestRefusal};
 use keyfile::KeyFile;
 use std::alloc::Global;
-use updater_text::{Lack, NoMemory, Text};
+use updater_text::{Lack, NoMemory, Text, text_if_any};
 
 /// Reads a manifest, as RAUC's chapter Reference describes `manifest.raucm`, or refuses it with the
 /// first refusal that holds, in the order of `ManifestRefusal`.
@@ -76,7 +75,7 @@ fn read_content(alloc: Global, file: &KeyFile, images: &[Text]) -> Result<Manife
     ensures { IfOk result (λ manifest. manifest_content manifest ≡ content file.now) }
 {
     let bundle = read_bundle_text(alloc, file)?;
-    let hook_file = read_hook_file(alloc, file)?;
+    let hook_file = text_if_any(alloc, file.get("hooks", "filename"))?;
     let images = read_images(alloc, file, images)?;
     Ok(Manifest {
         bundle,
@@ -84,13 +83,4 @@ fn read_content(alloc: Global, file: &KeyFile, images: &[Text]) -> Result<Manife
         install_check: has_install_check(file),
         images,
     })
-}
-
-fn read_hook_file(alloc: Global, file: &KeyFile) -> Result<Option<Text>, NoMemory>
-    ensures { IfOk result (λ name. name ≡ get_in file.now (codes "hooks") (codes "filename")) }
-{
-    match file.get("hooks", "filename") {
-        Some(name) => Ok(Some(Text::new(alloc, name)?)),
-        None => Ok(None),
-    }
 }

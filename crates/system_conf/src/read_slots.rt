@@ -3,12 +3,12 @@ ghost use Rattle.std.specs.Str.{bytes_eq};
 ghost use Rattle.conf_forms.specs.SlotNames.{parts, parts_of};
 ghost use Rattle.system_conf.specs.Slots as spec;
 
-use crate::values::{flag_in, text_if_any};
+use crate::values::flag_in;
 use crate::{Reader, Slot, SlotKind};
 use conf_forms::{Form, SlotGroup, value_with_form};
 use keyfile::KeyFile;
 use std::alloc::Global;
-use updater_text::{Items, NoMemory, Text};
+use updater_text::{Items, NoMemory, Text, text_if_any};
 
 /// The slots of a configuration.
 pub fn read_slots(reader: &Reader<'_>) -> Result<Items<Slot>, NoMemory>

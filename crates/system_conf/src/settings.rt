@@ -4,12 +4,12 @@ ghost use Rattle.system_conf.specs.Settings as spec;
 use crate::Helpers;
 use crate::values::{
     boot_of, compatible_of, data_directory_of, handler_of, helpers_of, mount_prefix_of,
-    status_file_of, text_if_any,
+    status_file_of,
 };
 use boot_model::BootKind;
 use keyfile::KeyFile;
 use std::alloc::Global;
-use updater_text::{NoMemory, Text};
+use updater_text::{NoMemory, Text, text_if_any};
 
 /// Where the updater keeps files, and mounts bundles.
 #[derive(Drop)]

@@ -6,7 +6,7 @@ use boot_model::BootKind;
 use conf_forms::{Form, attempts_of, value_with_form, without_slash};
 use keyfile::KeyFile;
 use std::alloc::Global;
-use updater_text::{NoMemory, Text, read_flag};
+use updater_text::{NoMemory, Text, read_flag, text_if_any};
 
 /// The flag at a key, or else the default.
 pub fn flag_in(file: &KeyFile, group: &str, key: &str, default: bool) -> bool
@@ -94,16 +94,6 @@ pub fn status_file_of(alloc: Global, file: &KeyFile) -> Result<Option<Text>, NoM
     }
     match data_directory_of(file) {
         Some(directory) => Ok(Some(central_file(alloc, directory)?)),
-        None => Ok(None),
-    }
-}
-
-/// A copy of a text, where there is one.
-pub fn text_if_any(alloc: Global, text: Option<&str>) -> Result<Option<Text>, NoMemory>
-    ensures { IfOk result (λ held. held ≡ option_copied text.entry) }
-{
-    match text {
-        Some(text) => Ok(Some(Text::new(alloc, text)?)),
         None => Ok(None),
     }
 }

@@ -26,5 +26,5 @@ pub use quoting::quote;
 pub use sink::{Failed, Sink, say, tell};
 pub use size::read_size;
 pub use stops::{Lack, NoMemory};
-pub use text::Text;
+pub use text::{Text, text_if_any};
 pub use writer_sink::WriterSink;

@@ -1,4 +1,4 @@
-ghost use Rattle.std.specs.Prelude.{◌≡◌, [], IfOk, string_bytes};
+ghost use Rattle.std.specs.Prelude.{◌≡◌, [], IfOk, option_copied, string_bytes};
 
 use crate::NoMemory;
 use std::alloc::Global;
@@ -64,6 +64,16 @@ impl Text {
         ensures { IfOk result (λ t. t ≡ self.now) }
     {
         Text::new(alloc, self.text.as_str())
+    }
+}
+
+/// A copy of a text, where there is one.
+pub fn text_if_any(alloc: Global, text: Option<&str>) -> Result<Option<Text>, NoMemory>
+    ensures { IfOk result (λ held. held ≡ option_copied text.entry) }
+{
+    match text {
+        Some(text) => Ok(Some(Text::new(alloc, text)?)),
+        None => Ok(None),
     }
 }
 
