@@ -1,2 +1,3 @@
 mod Loading
-mod Mounting
+pub mod Mounting
+pub mod Unmounting

@@ -2,7 +2,6 @@
 use Rattle.std.proofs.Common.{◌≡◌, ◌||◌, inl, inr, Bool, true, false, List, [], ◌∷◌, ◌++◌, Result, Ok, Err, IsTrue, refl, sym, subst}
 use Rattle.std.specs.List.{list_any}
 use Rattle.std.specs.Option.{option_to_list}
-use Rattle.std.specs.Prelude.{bytes_eq, codes}
 use Rattle.std.proofs.lemmas.Bool.{true≢false}
 use Rattle.updater_text.specs.Paths.{is_within}
 use Rattle.keyfile.specs.Groups.{Text}
@@ -12,11 +11,10 @@ use Rattle.machine.specs.declared.stops.Stop.TheVariants as stop
 use Rattle.machine.specs.declared.world.Child.{Child}
 use Rattle.machine.specs.declared.world.Ended.{Ended}
 use Rattle.machine.specs.Past.{Past}
-use Rattle.machine.specs.Runs.{RunSince, SparesThese}
-use Rattle.machine.proofs.Running.{run_since_joins}
+use Rattle.machine.specs.Runs.{RanAll, SparesThese}
 use Rattle.system_conf.specs.Configuration.{Configuration}
 use Rattle.child_steps.specs.Children.{check_child, helper_spares, mount_child, mount_point}
-use Rattle.child_steps.specs.Mounting.{MountEnds, OneRun, StepEnds, TwoRuns, succeeded}
+use Rattle.child_steps.specs.Mounting.{MountEnds, OneRun, StepEnds, succeeded}
 use Rattle.child_steps.specs.declared.mounted.Mounted.{Mounted}
 use Rattle.child_steps.specs.declared.refusal.MountRefusal.{MountRefusal}
 use Rattle.child_steps.specs.declared.refusal.MountRefusal.TheVariants.{Untrusted, MountFailed}
@@ -37,9 +35,7 @@ pub check_spares : (c : Configuration) (bundle : Text) → SparesThese (helper_s
 check_spares c bundle = record {
   class = refl;
   disks = λ path h. h;
-  files = λ path h.
-      or_onto (bytes_eq path (codes "/proc/cmdline")) (list_any (λ p. is_within p path) (option_to_list c.status_file ++ [])) (list_any (λ p. is_within p path) (option_to_list c.status_file ++ mount_point c ∷ []))
-      (any_more (λ p. is_within p path) (option_to_list c.status_file) (mount_point c ∷ [])) h;
+  files = λ path h. any_more (λ p. is_within p path) (option_to_list c.status_file) (mount_point c ∷ []) h;
   boot = λ h. h;
 }
 
@@ -47,15 +43,9 @@ check_spares c bundle = record {
 pub own_spares : (child : Child) → is_boot child.class ≡ false → SparesThese child.spares child
 own_spares child none = record { class = none; disks = λ path h. h; files = λ path h. h; boot = λ h. h }
 
--- two children one after the other
-two : (first second : Child) (ended ended' : Ended) (a b c : Past) → OneRun first ended a b → OneRun second ended' b c → TwoRuns first second ended ended' a c
-two first second ended ended' a b c ab bc = record {
-  exit = ab.exit;
-  exit' = bc.exit;
-  runs = run_since_joins a b c (record { child = first; exit = ab.exit } ∷ []) (record { child = second; exit = bc.exit } ∷ []) ab.runs bc.runs;
-  is = ab.is;
-  is' = bc.is;
-}
+-- the one child that was run
+pub ran_one : (child : Child) (ended : Ended) (a b : Past) → OneRun child ended a b → RanAll (child ∷ []) a b
+ran_one child ended a b run = (record { child = child; exit = run.exit } ∷ [], refl, run.runs)
 
 -- the check did not succeed, or gave no end
 pub ends_unchecked : (conf : Configuration) (bundle : Text) (a b : Past) (why : Stop MountRefusal) → StepEnds {T = Unit {0}} (check_child conf bundle) Untrusted a b (Err why) → MountEnds conf bundle a b (Err why)
@@ -64,18 +54,11 @@ ends_unchecked conf bundle a b (stop.Refused r) h =
 ends_unchecked conf bundle a b (stop.Outside kind) h = (inl h.0, h.1)
 ends_unchecked conf bundle a b stop.NoMemory h = inl h
 
-none_then : (first : Child) (ended : Ended) (a b c : Past) → OneRun first ended a b → RunSince b c [] → OneRun first ended a c
-none_then first ended a b c ab bc = record {
-  exit = ab.exit;
-  runs = run_since_joins a b c (record { child = first; exit = ab.exit } ∷ []) [] ab.runs bc;
-  is = ab.is;
-}
-
 -- it did, and then the mount
 pub ends_checked : (conf : Configuration) (bundle : Text) (a b c : Past) (result : Result Mounted (Stop MountRefusal)) → OneRun (check_child conf bundle) succeeded a b → StepEnds (mount_child conf bundle) MountFailed b c result → MountEnds conf bundle a c result
-ends_checked conf bundle a b c (Ok mounted) first h = two (check_child conf bundle) (mount_child conf bundle) succeeded succeeded a b c first h
+ends_checked conf bundle a b c (Ok mounted) first h = record { between = b; one = first; two = h }
 ends_checked conf bundle a b c (Err (stop.Refused r)) first h =
     subst (λ (x : MountRefusal). MountEnds conf bundle a c (Err (stop.Refused x))) (sym h.3)
-    (two (check_child conf bundle) (mount_child conf bundle) succeeded h.0 a b c first h.1, h.2)
-ends_checked conf bundle a b c (Err (stop.Outside kind)) first h = (inr (none_then (check_child conf bundle) succeeded a b c first h.0), h.1)
-ends_checked conf bundle a b c (Err stop.NoMemory) first h = inr (none_then (check_child conf bundle) succeeded a b c first h)
+    (record { between = b; one = first; two = h.1 }, h.2)
+ends_checked conf bundle a b c (Err (stop.Outside kind)) first h = (inr (b, first, h.0), h.1)
+ends_checked conf bundle a b c (Err stop.NoMemory) first h = inr (subst (λ (p : Past). OneRun (check_child conf bundle) succeeded a p) (sym h) first)

@@ -28,3 +28,7 @@ mount_child c bundle = helper c c.helpers.mount (bundle ∷ mount_point c ∷ []
 
 abbrev pub umount_child : Configuration → Child
 umount_child c = helper c c.helpers.umount (mount_point c ∷ []) []
+
+-- those that check and mount a bundle, in order
+abbrev pub mounting : Configuration → Text → List Child
+mounting c bundle = check_child c bundle ∷ mount_child c bundle ∷ []

@@ -1,6 +1,7 @@
 ghost use Rattle.std.specs.Prelude.{◌≡◌, ◌++◌, IfOk, IsTrue, None, codes};
 ghost use Rattle.machine.specs.Frames.{Unchanged};
 ghost use Rattle.machine.specs.Past.{Fails, world_now};
+ghost use Rattle.machine.specs.Runs.{ReadsOnce};
 ghost use Rattle.machine.specs.World.{file};
 ghost use Rattle.machine.specs.Stops.{StopCounted, stop_fault};
 ghost use Rattle.system_conf.specs.Reads.{system_configuration};
@@ -75,6 +76,7 @@ fn load_manifest<M: Machine>(
     path: &str,
 ) -> Result<Manifest, Stop<BundleRefusal>>
     ensures unchanged { Unchanged M.tells (M.past m.old) (M.past m.new) }
+    ensures once { IsTrue M.tells → ReadsOnce path.now (M.past m.old) (M.past m.new) }
     ensures answers { IsTrue M.tells → LoadsManifest (manifest_in (file (world_now (M.past m.old)) path.now)) result }
     ensures fails { Fails M.tells (M.past m.old) (M.past m.new) (stop_fault result) }
     ensures counts { StopCounted (M.faults m.old) (M.faults m.new) (M.wants m.old) (M.wants m.new) result }
@@ -91,7 +93,7 @@ fn load_manifest<M: Machine>(
     }
 }
 
-/// Reads the manifest of the bundle that is mounted: `NoManifest` where it has none, `BadKeys` where
+/// Reads the manifest of the bundle that is mounted, by one call: `NoManifest` where it has none, `BadKeys` where
 /// that has more than 1,048,576 bytes or is no key file, `BadManifest` where what it says is refused.
 pub fn read_bundle<M: Machine>(
     alloc: Global,
@@ -99,6 +101,7 @@ pub fn read_bundle<M: Machine>(
     system: &System,
 ) -> Result<Manifest, Stop<BundleRefusal>>
     ensures unchanged { Unchanged M.tells (M.past m.old) (M.past m.new) }
+    ensures once { IsTrue M.tells → ReadsOnce (manifest_path (system_configuration system.now)) (M.past m.old) (M.past m.new) }
     ensures answers { IsTrue M.tells → LoadsManifest (bundle_at (system_configuration system.now) (world_now (M.past m.old))) result }
     ensures fails { Fails M.tells (M.past m.old) (M.past m.new) (stop_fault result) }
     ensures counts { StopCounted (M.faults m.old) (M.faults m.new) (M.wants m.old) (M.wants m.new) result }

@@ -1,4 +1,4 @@
-ghost use Rattle.std.specs.Prelude.{◌≡◌, IsTrue};
+ghost use Rattle.std.specs.Prelude.{◌≡◌, [], ◌∷◌, IsTrue};
 ghost use Rattle.machine.specs.Runs.{OnlyRuns};
 ghost use Rattle.child_steps.specs.Closing.{ClosingCounted, ClosingEnds, closing_of};
 
@@ -23,7 +23,7 @@ pub enum Closing {
 /// Runs the child that unmounts a bundle, once. `Unmounted` comes exactly where it ended with `Code(0)`,
 /// `Ended` exactly for any other end; never `NotMounted`.
 pub fn close_bundle<M: Machine>(alloc: Global, m: &mut M, mounted: Mounted) -> Closing
-    ensures kept { OnlyRuns M.tells mounted.umount.spares (M.past m.old) (M.past m.new) }
+    ensures kept { OnlyRuns M.tells mounted.umount.spares (mounted.umount ∷ []) (M.past m.old) (M.past m.new) }
     ensures ends { IsTrue M.tells → ClosingEnds mounted.umount (M.past m.old) (M.past m.new) result }
     ensures counts { ClosingCounted (M.faults m.old) (M.faults m.new) (M.wants m.old) (M.wants m.new) result }
 {

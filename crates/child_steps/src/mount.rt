@@ -1,11 +1,11 @@
-ghost use Rattle.std.specs.Prelude.{◌≡◌, [], IfOk, IsTrue, false};
+ghost use Rattle.std.specs.Prelude.{◌≡◌, [], ◌∷◌, IfOk, IsTrue, false};
 ghost use Rattle.machine.specs.Calls.{RunCounted};
 ghost use Rattle.machine.specs.Past.{Fails};
 ghost use Rattle.machine.specs.Runs.{OnlyRuns, SparesThese};
 ghost use Rattle.machine.specs.Spares.{is_boot};
 ghost use Rattle.machine.specs.Stops.{StopCounted, stop_fault};
 ghost use Rattle.system_conf.specs.Reads.{system_configuration};
-ghost use Rattle.child_steps.specs.Children.{helper_spares, umount_child};
+ghost use Rattle.child_steps.specs.Children.{helper_spares, mounting, umount_child};
 ghost use Rattle.child_steps.specs.Mounting.{ChildEnds, ChildFails, MountEnds, StepEnds, child_stop, children_of};
 ghost use Rattle.child_steps.specs.declared.refusal.MountRefusal.TheVariants as refusal;
 
@@ -24,7 +24,7 @@ fn run_child<M: Machine>(
     child: &Child,
 ) -> Result<Ended, RunStop>
     requires { SparesThese (helper_spares (system_configuration system.now) []) child.now }
-    ensures kept { OnlyRuns M.tells (helper_spares (system_configuration system.now) []) (M.past m.old) (M.past m.new) }
+    ensures kept { OnlyRuns M.tells (helper_spares (system_configuration system.now) []) (child.now ∷ []) (M.past m.old) (M.past m.new) }
     ensures ends { IsTrue M.tells → ChildEnds child.now (M.past m.old) (M.past m.new) result }
     ensures fails { ChildFails M.tells (M.past m.old) (M.past m.new) result }
     ensures counts { RunCounted (M.faults m.old) (M.faults m.new) (M.wants m.old) (M.wants m.new) result }
@@ -53,7 +53,7 @@ fn run_mount<M: Machine>(
     mount: &Child,
 ) -> Result<(), Stop<MountRefusal>>
     requires { SparesThese (helper_spares (system_configuration system.now) []) mount.now }
-    ensures kept { OnlyRuns M.tells (helper_spares (system_configuration system.now) []) (M.past m.old) (M.past m.new) }
+    ensures kept { OnlyRuns M.tells (helper_spares (system_configuration system.now) []) (mount.now ∷ []) (M.past m.old) (M.past m.new) }
     ensures ends { IsTrue M.tells → StepEnds mount.now refusal.MountFailed (M.past m.old) (M.past m.new) result }
     ensures fails { Fails M.tells (M.past m.old) (M.past m.new) (stop_fault result) }
     ensures counts { StopCounted (M.faults m.old) (M.faults m.new) (M.wants m.old) (M.wants m.new) result }
@@ -73,7 +73,7 @@ fn run_check<M: Machine>(
     check: &Child,
 ) -> Result<(), Stop<MountRefusal>>
     requires { SparesThese (helper_spares (system_configuration system.now) []) check.now }
-    ensures kept { OnlyRuns M.tells (helper_spares (system_configuration system.now) []) (M.past m.old) (M.past m.new) }
+    ensures kept { OnlyRuns M.tells (helper_spares (system_configuration system.now) []) (check.now ∷ []) (M.past m.old) (M.past m.new) }
     ensures ends { IsTrue M.tells → StepEnds check.now refusal.Untrusted (M.past m.old) (M.past m.new) result }
     ensures fails { Fails M.tells (M.past m.old) (M.past m.new) (stop_fault result) }
     ensures counts { StopCounted (M.faults m.old) (M.faults m.new) (M.wants m.old) (M.wants m.new) result }
@@ -115,7 +115,7 @@ pub fn mount_bundle<M: Machine>(
     system: &System,
     bundle: &str,
 ) -> Result<Mounted, Stop<MountRefusal>>
-    ensures kept { OnlyRuns M.tells (helper_spares (system_configuration system.now) []) (M.past m.old) (M.past m.new) }
+    ensures kept { OnlyRuns M.tells (helper_spares (system_configuration system.now) []) (mounting (system_configuration system.now) bundle.now) (M.past m.old) (M.past m.new) }
     ensures ends { IsTrue M.tells → MountEnds (system_configuration system.now) bundle.now (M.past m.old) (M.past m.new) result }
     ensures mounted { IfOk result (λ mounted. mounted.umount ≡ umount_child (system_configuration system.now)) }
     ensures fails { Fails M.tells (M.past m.old) (M.past m.new) (stop_fault result) }
@@ -139,7 +139,7 @@ fn mount_checked<M: Machine>(
 ) -> Result<Mounted, Stop<MountRefusal>>
     requires spares { SparesThese (helper_spares (system_configuration system.now) []) children.mount }
     requires helper { is_boot children.umount.class ≡ false }
-    ensures kept { OnlyRuns M.tells (helper_spares (system_configuration system.now) []) (M.past m.old) (M.past m.new) }
+    ensures kept { OnlyRuns M.tells (helper_spares (system_configuration system.now) []) (children.mount ∷ []) (M.past m.old) (M.past m.new) }
     ensures ends { IsTrue M.tells → StepEnds children.mount refusal.MountFailed (M.past m.old) (M.past m.new) result }
     ensures mounted { IfOk result (λ mounted. mounted.umount ≡ children.umount) }
     ensures fails { Fails M.tells (M.past m.old) (M.past m.new) (stop_fault result) }

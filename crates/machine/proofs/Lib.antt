@@ -6,3 +6,5 @@ pub mod Sparing
 pub mod Reading
 pub mod Only
 pub mod Running
+pub mod SameChild
+pub mod CallsMade

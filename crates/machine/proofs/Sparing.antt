@@ -1,5 +1,5 @@
 -- What children and replacements leave, and how it joins.
-use Rattle.std.proofs.Common.{◌≡◌, ◌≢◌, ℕ, Bool, true, false, cond, ◌||◌, List, [], ◌∷◌, filter, Option, Some, Result, Ok, Err, refl, sym, ◌∙◌, ap, subst}
+use Rattle.std.proofs.Common.{◌≡◌, ◌≢◌, ◌⊎◌, inl, inr, IsTrue, ℕ, Bool, true, false, cond, ◌||◌, List, [], ◌∷◌, filter, Option, Some, Result, Ok, Err, refl, sym, ◌∙◌, ap, subst}
 use Rattle.std.specs.Prelude.{bytes_eq}
 use Rattle.std.proofs.lemmas.Bool.{true≢false}
 use Rattle.std.proofs.lemmas.Slice.Eq.{bytes_eq-Decides}
@@ -13,9 +13,11 @@ use Rattle.machine.specs.declared.calls.RunStop.TheVariants as run
 use Rattle.machine.specs.World.{bytes_under, file, put_under, with_file}
 use Rattle.machine.specs.Crash.{covers, is_in}
 use Rattle.machine.specs.Spares.{Spared, spans_of}
-use Rattle.machine.specs.Past.{Past, Run, Done, Broken, Inside, IsRun, Always, world_now}
-use Rattle.machine.specs.Calls.{RunEnds}
-use Rattle.machine.proofs.Moments.{always_did, always_start}
+use Rattle.machine.specs.Frames.{ReplacesOnly}
+use Rattle.machine.specs.Past.{Past, After, End, Replace, Run, Done, Broken, Overlong, Inside, IsRun, Always, world_now}
+use Rattle.machine.specs.declared.calls.CallStop.{CallStop}
+use Rattle.machine.specs.Calls.{Ends, RunEnds}
+use Rattle.machine.proofs.Moments.{always_did, always_ends, always_start}
 use Rattle.machine.proofs.Worlds.{bytes_eq_other}
 
 -- a child may change nothing at all, and what two children leave joins
@@ -57,6 +59,18 @@ always_run a b child P (Ok exit) ends here inside after =
 always_run a b child P (Err run.Failed) did here inside after =
     always_did a b (Run child) Broken P did here inside (inside (world_now b) did.after)
 always_run a b child P (Err run.NoMemory) same here inside after = subst (λ (q : Past). Always a q P) (sym same) (always_start a P here)
+
+-- the replacement of a file, however it ended
+replaced : (path bytes : List ℕ) (w : World) (end : End) (v : World) → After (Replace path bytes) end w v → (v ≡ w) ⊎ (v ≡ with_file w path bytes)
+replaced path bytes w Done v h = inr h
+replaced path bytes w Broken v h = h
+replaced path bytes w Overlong v h = inl h
+
+pub replaces_only : {T : Type 0} (t : Bool) (a b : Past) (path bytes : List ℕ) (result : Result T CallStop) → (IsTrue t → Ends a b (Replace path bytes) result) → ReplacesOnly t path bytes a b
+replaces_only t a b path bytes result ends = record {
+  all = λ told.
+      always_ends a b (Replace path bytes) (λ u. (u ≡ world_now a) ⊎ (u ≡ with_file (world_now a) path bytes)) result (ends told) (inl refl) (λ u h. h) (λ end v h. replaced path bytes (world_now a) end v h);
+}
 
 -- what stands under a path after bytes were put
 pub bytes_under-put_same : (ns : List Named) (p bytes : List ℕ) → bytes_under (put_under ns p bytes) p ≡ Some bytes

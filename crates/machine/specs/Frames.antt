@@ -3,7 +3,7 @@ use Rattle.std.specs.Prelude.{◌≡◌, ◌≤◌, ◌<◌, ◌⊎◌, ◌+◌,
 use Rattle.std.specs.List.{All}
 use Rattle.machine.specs.declared.world.Span.{Span}
 use Rattle.machine.specs.declared.world.World.{World}
-use Rattle.machine.specs.World.{disk_byte, disk_length}
+use Rattle.machine.specs.World.{disk_byte, disk_length, with_file}
 use Rattle.machine.specs.Crash.{is_in}
 use Rattle.machine.specs.Past.{Past, world_now, Always, Held}
 
@@ -50,6 +50,10 @@ pub record OnlyReads (tells : Bool) (old new : Past) : Type 0 where
 -- where told: at each moment since, inside the calls too, only this range was written
 pub record ChangesOnly (tells : Bool) (device : List ℕ) (from to : ℕ) (old new : Past) : Type 0 where
   pub all : IsTrue tells → Always old new (DiffersOnlyIn device from to (world_now old))
+
+-- where told: at each moment since, inside the calls too, only this file was replaced: it is the old one, or has these bytes
+pub record ReplacesOnly (tells : Bool) (path bytes : List ℕ) (old new : Past) : Type 0 where
+  pub all : IsTrue tells → Always old new (λ u. (u ≡ world_now old) ⊎ (u ≡ with_file (world_now old) path bytes))
 
 -- the spans are the old ones, and more that cover only bytes that may be touched
 pub record AddsTouching (Touched : List ℕ → ℕ → Type 0) (old new : List Span) : Type 0 where

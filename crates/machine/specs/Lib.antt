@@ -4,5 +4,6 @@ pub mod Spares
 pub mod Past
 pub mod Calls
 pub mod Frames
+pub mod SameChild
 pub mod Runs
 pub mod Stops

@@ -6,6 +6,7 @@ use Rattle.machine.specs.declared.world.Child.{Child}
 use Rattle.machine.specs.declared.world.ChildClass.{ChildClass}
 use Rattle.machine.specs.declared.world.ChildClass.TheVariants.{Boot, Helper, Handler, Hook}
 use Rattle.machine.specs.declared.world.Span.{Span}
+use Rattle.machine.specs.declared.world.Spares.{Spares}
 use Rattle.machine.specs.declared.world.World.{World}
 use Rattle.machine.specs.World.{disk, disk_length, file}
 
@@ -16,14 +17,25 @@ is_boot Helper = false
 is_boot Handler = false
 is_boot Hook = false
 
+-- the disk is one of those that must stay as they are
+abbrev pub has_disk : Spares → List ℕ → Bool
+has_disk spares path = list_any (λ p. bytes_eq p path) spares.disks
+
+-- the file is one of those that must stay as they are, or lies below one
+abbrev pub has_file : Spares → List ℕ → Bool
+has_file spares path = list_any (λ p. is_within p path) spares.files
+
 -- the disk must stay as it is; a boot program leaves every disk
 abbrev pub spares_disk : Child → List ℕ → Bool
-spares_disk child path = is_boot child.class || list_any (λ p. bytes_eq p path) child.spares.disks
+spares_disk child path = is_boot child.class || has_disk child.spares path
 
--- the file must stay as it is; that of the kernel's words is left by all, and every file by a boot program
+-- the file of the kernel's words, which no child changes
+abbrev pub is_kernels : List ℕ → Bool
+is_kernels path = bytes_eq path (codes "/proc/cmdline")
+
+-- the file must stay as it is; every file by a boot program
 abbrev pub spares_file : Child → List ℕ → Bool
-spares_file child path =
-    bytes_eq path (codes "/proc/cmdline") || (is_boot child.class || list_any (λ p. is_within p path) child.spares.files)
+spares_file child path = is_kernels path || (is_boot child.class || has_file child.spares path)
 
 -- the boot variables must stay as they are; a boot program is there to change them
 abbrev pub spares_vars : Child → Bool

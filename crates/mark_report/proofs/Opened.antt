@@ -1,10 +1,8 @@
 -- A bundle that was mounted is read and unmounted.
-use Rattle.std.proofs.Common.{◌≡◌, ◌≤◌, ℕ, Bool, Option, Result, Ok, Err, refl, subst, arith}
+use Rattle.std.proofs.Common.{◌≡◌, ◌≤◌, ℕ, Result, Ok, Err, refl, subst, arith}
 use Rattle.updater_text.specs.Counts.{CountRose}
-use Rattle.machine.specs.declared.stops.Fault.{Fault}
 use Rattle.machine.specs.declared.stops.Stop.{Stop}
 use Rattle.machine.specs.declared.stops.Stop.TheVariants as stop
-use Rattle.machine.specs.Past.{Past, Fails}
 use Rattle.machine.specs.Stops.{StopCounted, stop_fault}
 use Rattle.manifest.specs.Contents.{Content}
 use Rattle.manifest.specs.declared.content.Manifest.{Manifest}
@@ -13,7 +11,9 @@ use Rattle.child_steps.specs.Closing.{ClosingCounted}
 use Rattle.child_steps.specs.declared.bundle.BundleRefusal.{BundleRefusal}
 use Rattle.child_steps.specs.declared.close.Closing.{Closing}
 use Rattle.child_steps.specs.declared.close.Closing.TheVariants as closing
-use Rattle.mark_report.specs.Opening.{ClosingRose, InfoCounted, LoadsInfo, bundle_result}
+use Rattle.child_steps.specs.declared.mounted.Mounted.{Mounted}
+use Rattle.child_steps.specs.declared.refusal.MountRefusal.{MountRefusal}
+use Rattle.mark_report.specs.Opening.{ClosesAs, ClosingRose, InfoCounted, LoadsInfo, bundle_result, mount_stop}
 
 -- what the manifest says, passed on
 pub loads_as : (meaning : Result Content BundleRefusal) (r : Result Manifest (Stop BundleRefusal)) → LoadsManifest meaning r → LoadsInfo meaning (bundle_result r)
@@ -22,14 +22,11 @@ loads_as meaning (Err (stop.Refused refusal)) h = h
 loads_as meaning (Err (stop.Outside kind)) h = tt
 loads_as meaning (Err stop.NoMemory) h = tt
 
-fault_as : (r : Result Manifest (Stop BundleRefusal)) → stop_fault r ≡ stop_fault (bundle_result r)
+pub fault_as : (r : Result Manifest (Stop BundleRefusal)) → stop_fault r ≡ stop_fault (bundle_result r)
 fault_as (Ok manifest) = refl
 fault_as (Err (stop.Refused refusal)) = refl
 fault_as (Err (stop.Outside kind)) = refl
 fault_as (Err stop.NoMemory) = refl
-
-pub fails_as : (t : Bool) (a b : Past) (r : Result Manifest (Stop BundleRefusal)) → Fails t a b (stop_fault r) → Fails t a b (stop_fault (bundle_result r))
-fails_as t a b r h = subst (λ (k : Option Fault). Fails t a b k) (fault_as r) h
 
 -- counts of two calls
 rose_before : (k m n : ℕ) → k ≤ m → CountRose m n → CountRose k n
@@ -64,8 +61,20 @@ closing_rose f g h n m k (closing.Ended ended) c le le' = tt
 closing_rose f g h n m k closing.Failed c le le' = rose_before f g h le c.0
 closing_rose f g h n m k closing.NoMemory c le le' = rose_before n m k le' c.1
 
+closes_as : (f f' n n' : ℕ) (r : Result Manifest (Stop BundleRefusal)) (c : Closing) → ClosingCounted f f' n n' c → ClosesAs (bundle_result r) c
+closes_as f f' n n' (Ok manifest) c h = λ e. subst (λ (x : Closing). ClosingCounted f f' n n' x) e h
+closes_as f f' n n' (Err (stop.Refused refusal)) c h = λ e. subst (λ (x : Closing). ClosingCounted f f' n n' x) e h
+closes_as f f' n n' (Err (stop.Outside kind)) c h = tt
+closes_as f f' n n' (Err stop.NoMemory) c h = tt
+
 pub counted_both : (f g h n m k : ℕ) (r : Result Manifest (Stop BundleRefusal)) (c : Closing) → StopCounted f g n m r → ClosingCounted g h m k c → InfoCounted f h n k (record { result = bundle_result r; closing = c })
 counted_both f g h n m k r c first second =
     let le = closed_after g h m k c second in
     let before = read_after f g n m r first in
-    record { answer = answer_counted f g h n m k r first le.0 le.1; closing = closing_rose f g h n m k c second before.0 before.1 }
+    record { answer = answer_counted f g h n m k r first le.0 le.1; closing = closing_rose f g h n m k c second before.0 before.1; closes = closes_as g h m k r c second }
+
+-- the mount was refused
+pub counted_unopened : (f f' n n' : ℕ) (why : Stop MountRefusal) → StopCounted {T = Mounted} f f' n n' (Err why) → InfoCounted f f' n n' (record { result = Err (mount_stop why); closing = closing.NotMounted })
+counted_unopened f f' n n' (stop.Refused refusal) h = record { answer = h; closing = tt; closes = refl }
+counted_unopened f f' n n' (stop.Outside kind) h = record { answer = h; closing = tt; closes = tt }
+counted_unopened f f' n n' stop.NoMemory h = record { answer = h; closing = tt; closes = tt }

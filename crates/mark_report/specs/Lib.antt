@@ -1,3 +1,4 @@
+pub mod Causes
 pub mod Info
 pub mod Lines
 pub mod Opening

@@ -1,8 +1,11 @@
-ghost use Rattle.std.specs.Prelude.{◌≡◌, [], IsTrue};
+ghost use Rattle.std.specs.Prelude.{◌≡◌, [], ◌∷◌, IsTrue};
 ghost use Rattle.child_steps.specs.Children.{helper_spares, umount_child};
-ghost use Rattle.machine.specs.Runs.{OnlyRuns};
+ghost use Rattle.child_steps.specs.Closing.{closing_in};
+ghost use Rattle.machine.specs.Past.{moments_since};
+ghost use Rattle.machine.specs.Runs.{OnlyRuns, first_failed_but, is_run_of};
+ghost use Rattle.machine.specs.Stops.{stop_fault};
 ghost use Rattle.system_conf.specs.Reads.{system_configuration};
-ghost use Rattle.mark_report.specs.Opening.{InfoCounted, InfoEnds, ReadEnds, bundle_result, mount_stop};
+ghost use Rattle.mark_report.specs.Opening.{InfoCounted, ReadEnds, TellsInfo, bundle_result, info_children, info_in, mount_stop};
 
 use child_steps::{
     BundleRefusal, Closing, MountRefusal, Mounted, close_bundle, mount_bundle, read_bundle,
@@ -55,8 +58,8 @@ fn bundle_result(read: Result<Manifest, Stop<BundleRefusal>>) -> Result<Manifest
 // Reads the manifest of a bundle that is mounted, and unmounts it, whatever came of that.
 fn read_mounted<M: Machine>(alloc: Global, m: &mut M, system: &System, mounted: Mounted) -> InfoEnd
     requires { mounted.umount ≡ umount_child (system_configuration system.now) }
-    ensures kept { OnlyRuns M.tells (helper_spares (system_configuration system.now) []) (M.past m.old) (M.past m.new) }
-    ensures ends { IsTrue M.tells → ReadEnds M.tells (system_configuration system.now) (M.past m.old) (M.past m.new) result }
+    ensures kept { OnlyRuns M.tells (helper_spares (system_configuration system.now) []) (umount_child (system_configuration system.now) ∷ []) (M.past m.old) (M.past m.new) }
+    ensures ends { IsTrue M.tells → ReadEnds (system_configuration system.now) (M.past m.old) (M.past m.new) result }
     ensures counts { InfoCounted (M.faults m.old) (M.faults m.new) (M.wants m.old) (M.wants m.new) result }
 {
     let read = read_bundle(alloc, m, system);
@@ -67,11 +70,15 @@ fn read_mounted<M: Machine>(alloc: Global, m: &mut M, system: &System, mounted: 
     }
 }
 
-/// Mounts a bundle, reads its manifest, and unmounts it on every way on which it was mounted. What a
-/// helper must leave alone is left alone.
+/// Has a bundle checked and mounted, reads its manifest, and unmounts it on every way on which it was
+/// mounted. What a helper must leave alone is left alone. Clause `answers`: what it answers, by the ends
+/// of these children and by the manifest. Clause `fails`: a call that failed is told, but for the
+/// unmount's. Clause `closes`: what came of that.
 pub fn info<M: Machine>(alloc: Global, m: &mut M, system: &System, bundle: &str) -> InfoEnd
-    ensures kept { OnlyRuns M.tells (helper_spares (system_configuration system.now) []) (M.past m.old) (M.past m.new) }
-    ensures ends { IsTrue M.tells → InfoEnds M.tells (system_configuration system.now) bundle.now (M.past m.old) (M.past m.new) result }
+    ensures kept { OnlyRuns M.tells (helper_spares (system_configuration system.now) []) (info_children (system_configuration system.now) bundle.now) (M.past m.old) (M.past m.new) }
+    ensures answers { IsTrue M.tells → TellsInfo (info_in (system_configuration system.now) (M.past m.old) (M.past m.new)) result.result }
+    ensures fails { IsTrue M.tells → first_failed_but (is_run_of (umount_child (system_configuration system.now))) (moments_since (M.past m.old) (M.past m.new)) ≡ stop_fault result.result }
+    ensures closes { IsTrue M.tells → result.closing ≡ closing_in (umount_child (system_configuration system.now)) (M.past m.old) (M.past m.new) }
     ensures counts { InfoCounted (M.faults m.old) (M.faults m.new) (M.wants m.old) (M.wants m.new) result }
 {
     match mount_bundle(alloc, m, system, bundle) {

@@ -1,6 +1,7 @@
 ghost use Rattle.std.specs.Prelude.{◌≡◌, ◌++◌, [], OnOk};
 ghost use Rattle.std.specs.Option.{option_map_or};
 ghost use Rattle.std.specs.List.{flat_map};
+ghost use Rattle.manifest.specs.Reads.{bundle_content, image_content, image_contents, manifest_content};
 ghost use Rattle.mark_report.specs.Info as spec;
 
 use crate::lines::{write_line, write_line_if_any, write_number_line};
@@ -11,7 +12,7 @@ use updater_text::NoMemory;
 /// Writes what a manifest says, for a reader.
 #[tactic(auto, unfolding(crate::specs::Info::readable))]
 pub fn write_readable(alloc: Global, out: &mut Vec<u8>, manifest: &Manifest) -> Result<(), NoMemory>
-    ensures { OnOk result (out.new.items ≡ out.old.items ++ spec.readable manifest.now) }
+    ensures { OnOk result (out.new.items ≡ out.old.items ++ spec.readable (manifest_content manifest.now)) }
 {
     write_bundle(out, &manifest.bundle)?;
     write_number_line(alloc, out, "images: ", manifest.images.len() as u64)?;
@@ -20,7 +21,7 @@ pub fn write_readable(alloc: Global, out: &mut Vec<u8>, manifest: &Manifest) -> 
 
 #[tactic(auto, unfolding(crate::specs::Info::bundle_lines))]
 fn write_bundle(out: &mut Vec<u8>, bundle: &BundleText) -> Result<(), AllocError>
-    ensures { OnOk result (out.new.items ≡ out.old.items ++ spec.bundle_lines bundle.now) }
+    ensures { OnOk result (out.new.items ≡ out.old.items ++ spec.bundle_lines (bundle_content bundle.now)) }
 {
     write_line(out, "compatible: ", bundle.compatible.as_str())?;
     write_line_if_any(out, "version: ", &bundle.version)?;
@@ -30,7 +31,7 @@ fn write_bundle(out: &mut Vec<u8>, bundle: &BundleText) -> Result<(), AllocError
 }
 
 fn write_images(alloc: Global, out: &mut Vec<u8>, images: &[Image]) -> Result<(), NoMemory>
-    ensures { OnOk result (out.new.items ≡ out.old.items ++ flat_map spec.image_lines images.now) }
+    ensures { OnOk result (out.new.items ≡ out.old.items ++ flat_map spec.image_lines (image_contents images.now)) }
 {
     for image in images {
         write_image(alloc, out, image)?;
@@ -40,7 +41,7 @@ fn write_images(alloc: Global, out: &mut Vec<u8>, images: &[Image]) -> Result<()
 
 #[tactic(auto, unfolding(crate::specs::Info::image_lines))]
 fn write_image(alloc: Global, out: &mut Vec<u8>, image: &Image) -> Result<(), NoMemory>
-    ensures { OnOk result (out.new.items ≡ out.old.items ++ spec.image_lines image.now) }
+    ensures { OnOk result (out.new.items ≡ out.old.items ++ spec.image_lines (image_content image.now)) }
 {
     write_line(out, "image ", image.class.as_str())?;
     write_file_if_any(alloc, out, &image.file)?;
@@ -86,7 +87,7 @@ fn write_if(out: &mut Vec<u8>, there: bool, text: &str) -> Result<(), AllocError
 // Writes the hooks that an image names, if it names one.
 #[tactic(auto, unfolding(crate::specs::Info::hook_line))]
 fn write_hooks(out: &mut Vec<u8>, image: &Image) -> Result<(), AllocError>
-    ensures { OnOk result (out.new.items ≡ out.old.items ++ spec.hook_line image.now) }
+    ensures { OnOk result (out.new.items ≡ out.old.items ++ spec.hook_line (image_content image.now)) }
 {
     if image.pre || image.install || image.post {
         out.extend_from_slice(b"  hooks:")?;

@@ -2,6 +2,7 @@ ghost use Rattle.std.specs.Prelude.{◌≡◌, ◌++◌, ◌+◌, [], IfOk, OnOk
 ghost use Rattle.std.specs.List.{enumerate_from, flat_map};
 ghost use Rattle.std.specs.Option.{option_map_or};
 ghost use Rattle.hex.specs.Hex.{encode_lower};
+ghost use Rattle.manifest.specs.Reads.{bundle_content, image_content, image_contents, manifest_content};
 ghost use Rattle.mark_report.specs.Info as spec;
 ghost use Rattle.mark_report.specs.Lines.{setting};
 
@@ -13,7 +14,7 @@ use updater_text::{NoMemory, Text};
 /// Writes what a manifest says, for a shell.
 #[tactic(auto, unfolding(crate::specs::Info::shell))]
 pub fn write_shell(alloc: Global, out: &mut Vec<u8>, manifest: &Manifest) -> Result<(), NoMemory>
-    ensures { OnOk result (out.new.items ≡ out.old.items ++ spec.shell manifest.now) }
+    ensures { OnOk result (out.new.items ≡ out.old.items ++ spec.shell (manifest_content manifest.now)) }
 {
     write_bundle(alloc, out, &manifest.bundle)?;
     write_count(alloc, out, manifest.images.len() as u64)?;
@@ -32,7 +33,7 @@ fn text_of(text: &Option<Text>) -> &str
 
 #[tactic(auto, unfolding(crate::specs::Info::bundle_settings))]
 fn write_bundle(alloc: Global, out: &mut Vec<u8>, bundle: &BundleText) -> Result<(), NoMemory>
-    ensures { OnOk result (out.new.items ≡ out.old.items ++ spec.bundle_settings bundle.now) }
+    ensures { OnOk result (out.new.items ≡ out.old.items ++ spec.bundle_settings (bundle_content bundle.now)) }
 {
     write_setting(alloc, out, "RAUC_MF_COMPATIBLE", bundle.compatible.as_str())?;
     write_setting(alloc, out, "RAUC_MF_VERSION", text_of(&bundle.version))?;
@@ -54,7 +55,7 @@ fn write_count(alloc: Global, out: &mut Vec<u8>, count: u64) -> Result<(), NoMem
 }
 
 fn write_images(alloc: Global, out: &mut Vec<u8>, images: &[Image]) -> Result<(), NoMemory>
-    ensures { OnOk result (out.new.items ≡ out.old.items ++ flat_map spec.image_settings (enumerate_from 1 images.now)) }
+    ensures { OnOk result (out.new.items ≡ out.old.items ++ flat_map spec.image_settings (enumerate_from 1 (image_contents images.now))) }
 {
     let mut number = 1;
     for image in images {
@@ -66,7 +67,7 @@ fn write_images(alloc: Global, out: &mut Vec<u8>, images: &[Image]) -> Result<()
 
 #[tactic(auto, unfolding(crate::specs::Info::image_settings))]
 fn write_image(alloc: Global, out: &mut Vec<u8>, number: u64, image: &Image) -> Result<(), NoMemory>
-    ensures { OnOk result (out.new.items ≡ out.old.items ++ spec.image_settings (number, image.now)) }
+    ensures { OnOk result (out.new.items ≡ out.old.items ++ spec.image_settings (number, image_content image.now)) }
 {
     write_numbered(
         alloc,
