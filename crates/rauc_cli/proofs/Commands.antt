@@ -5,14 +5,15 @@ use Rattle.machine.specs.declared.stops.Fault.{Fault}
 use Rattle.machine.specs.declared.stops.Stop.{Stop}
 use Rattle.machine.specs.declared.stops.Stop.TheVariants as stop
 use Rattle.machine.specs.declared.world.World.{World}
-use Rattle.machine.specs.Past.{Past, Always, Fails, moments_since, world_now}
+use Rattle.machine.specs.Past.{Past, Always, Fails, Grows, moments_since, world_now}
 use Rattle.machine.specs.Frames.{Unchanged}
+use Rattle.machine.specs.Runs.{ReadsOnce}
+use Rattle.machine.proofs.CallsMade.{once_now}
 use Rattle.machine.proofs.Moments.{always_now, always_weaker}
-use Rattle.machine.proofs.Joins.{now_unchanged}
-use Rattle.rauc_words.specs.declared.asked.Asked.{Asked}
+use Rattle.child_steps.specs.declared.close.Closing.TheVariants as closing
 use Rattle.rauc_words.specs.declared.asked.Asked.TheVariants as asked
 use Rattle.rauc_words.specs.declared.asked.Command.{Command}
-use Rattle.rauc_words.specs.declared.asked.Command.TheVariants.{WriteSlot}
+use Rattle.rauc_words.specs.declared.asked.Command.TheVariants.{WriteSlot, Info}
 use Rattle.rauc_words.specs.declared.asked.Run.{Run}
 use Rattle.rauc_words.specs.Table.{conf_path}
 use Rattle.system_conf.specs.Configuration.{Configuration}
@@ -28,8 +29,9 @@ use Rattle.rauc_cli.specs.declared.outcome.Report.{Report}
 use Rattle.rauc_cli.specs.Conf.{system_at}
 use Rattle.rauc_cli.specs.Lines.{no_system_report, outside}
 use Rattle.rauc_cli.specs.Plans.{Plan, Nothing, AtTheEnd, OnTheWay, asked_plan, command_plan, fault_in, report_of, slot_plan, system_plan, to_report}
-use Rattle.rauc_cli.specs.Ends.{CommandTexts, Ended, HasTexts, OutcomeCounted, RunTexts, SaysSlot, SlotTexts}
-use Rattle.rauc_cli.proofs.Ending.{IsQuiet, ended_after, ended_failed, ended_here, ended_memory, quiet_report, report_quiet, some_none, ways_unchanged}
+use Rattle.rauc_cli.specs.Ends.{CommandTexts, Ended, HasTexts, InfoTexts, OutcomeCounted, RunTexts, SaysSlot, SlotTexts}
+use Rattle.rauc_cli.proofs.Ending.{IsQuiet, IsQuietSince, ended_after, ended_failed, ended_here, ended_memory, quiet_report, quiet_since, report_quiet, some_none, ways_unchanged}
+use Rattle.rauc_cli.proofs.BundleInfo.{info_later, quiet_info}
 
 -- ---- write-slot
 
@@ -67,7 +69,7 @@ module _ (t : Bool) (slots : List Slot) (slot image : List ℕ) (answer : Result
   }
   ended_slot (Err (stop.Outside kind)) (Ok report) puts says = record {
     on_the_way = keeps puts.kept;
-    reported = λ told. says ∙ sym (report_quiet aim kind (quiet_slot slots slot image answer)) ∙ sym (ap (λ (o : Option Fault). report_of aim o) (fault (Some kind) puts.fails told));
+    reported = λ told. says ∙ sym (report_quiet aim kind (quiet_slot slots slot image answer).notes (quiet_slot slots slot image answer).warnings) ∙ sym (ap (λ (o : Option Fault). report_of aim o) (fault (Some kind) puts.fails told));
     at_the_end = λ told none. absurd (some_none kind (sym (fault (Some kind) puts.fails told) ∙ none));
   }
   ended_slot (Err stop.NoMemory) (Ok report) puts says = absurd says
@@ -75,26 +77,27 @@ module _ (t : Bool) (slots : List Slot) (slot image : List ℕ) (answer : Result
 
 -- ---- each command
 
-quiet_command : (old new : Past) (system : Configuration) (given : Option (List ℕ)) (command : Command) → IsQuiet (command_plan old new system given command)
-quiet_command old new system given (WriteSlot slot image) = quiet_slot system.slots slot image (slot_answer system.slots given slot image (world_now old))
+-- where the configuration was read, and no more
+quiet_command : (path : List ℕ) (a b : Past) (system : Configuration) (given : Option (List ℕ)) (command : Command) → ReadsOnce path a b → IsQuietSince (command_plan a b system given command) a b
+quiet_command path a b system given (WriteSlot slot image) once =
+    let answer = slot_answer system.slots given slot image (world_now a) in
+    quiet_since (slot_plan system.slots slot image answer) a b (quiet_slot system.slots slot image answer)
+quiet_command path a b system given (Info bundle form) once = quiet_info form system bundle path a b b once
 
-quiet_system : (old new : Past) (run : Run) (found : Result Configuration NoSystem) → IsQuiet (system_plan old new run found)
-quiet_system old new run (Ok system) = quiet_command old new system run.place.given run.command
-quiet_system old new run (Err refusal) = quiet_report _ _
+quiet_system : (path : List ℕ) (a b : Past) (run : Run) (found : Result Configuration NoSystem) → ReadsOnce path a b → IsQuietSince (system_plan a b run found) a b
+quiet_system path a b run (Ok system) once = quiet_command path a b system run.place.given run.command once
+quiet_system path a b run (Err refusal) once =
+    quiet_since (to_report (no_system_report (conf_path run.place) refusal) Nothing) a b (quiet_report _ _)
 
-pub quiet_asked : (old new : Past) (asked : Option Asked) → IsQuiet (asked_plan old new asked)
-quiet_asked old new (Some (asked.Run run)) = quiet_system old new run (system_at (world_now old) (conf_path run.place))
-quiet_asked old new (Some asked.Help) = quiet_report _ _
-quiet_asked old new None = quiet_report _ _
-
--- where nothing was changed before it began, a command's plan is that of the start
-command_later : (a b c : Past) (system : Configuration) (given : Option (List ℕ)) (command : Command) → world_now b ≡ world_now a → command_plan b c system given command ≡ command_plan a c system given command
-command_later a b c system given (WriteSlot slot image) same =
-    ap (λ (w : World). slot_plan system.slots slot image (slot_answer system.slots given slot image w)) same
+-- then a command's plan is that of the start
+command_later : (path : List ℕ) (a b c : Past) (system : Configuration) (given : Option (List ℕ)) (command : Command) → ReadsOnce path a b → Grows b c → command_plan b c system given command ≡ command_plan a c system given command
+command_later path a b c system given (WriteSlot slot image) once bc =
+    ap (λ (w : World). slot_plan system.slots slot image (slot_answer system.slots given slot image w)) (once_now path a b once)
+command_later path a b c system given (Info bundle form) once bc = info_later form system bundle path a b c once bc
 
 -- ---- the configuration of a command
 
-module _ (t : Bool) (run : Run) (path : List ℕ) (is : path ≡ conf_path run.place) (a b : Past) (unchanged : Unchanged t a b) where
+module _ (t : Bool) (run : Run) (path : List ℕ) (is : path ≡ conf_path run.place) (a b : Past) (unchanged : Unchanged t a b) (once : IsTrue t → ReadsOnce path a b) where
   abbrev goal : Past → Plan
   goal c = asked_plan a c (Some (asked.Run run))
 
@@ -104,7 +107,7 @@ module _ (t : Bool) (run : Run) (path : List ℕ) (is : path ≡ conf_path run.p
   pub asked_system : (c : Past) (system : Configuration) (result : Result Report NoMemory) → (IsTrue t → system_at (world_now a) path ≡ Ok system) → Fails t a b None → Ended t (command_plan b c system run.place.given run.command) b c result → Ended t (asked_plan a c (Some (asked.Run run))) a c result
   asked_system c system result loads fine rest =
       ended_after t (command_plan b c system run.place.given run.command) (goal c) a b c result unchanged fine
-      (λ told. command_later a b c system run.place.given run.command (now_unchanged t a b unchanged told) ∙ found c (Ok system) (loads told))
+      (λ told. command_later path a b c system run.place.given run.command (once told) (rest.on_the_way told).grows ∙ found c (Ok system) (loads told))
       rest
 
   pub asked_refusal : (refusal : NoSystem) (result : Result Report NoMemory) → (IsTrue t → system_at (world_now a) path ≡ Err refusal) → Fails t a b None → IfOk result (λ r. r ≡ no_system_report path refusal) → Ended t (asked_plan a b (Some (asked.Run run))) a b result
@@ -114,7 +117,7 @@ module _ (t : Bool) (run : Run) (path : List ℕ) (is : path ≡ conf_path run.p
       (ended_here t (no_system_report (conf_path run.place) refusal) b result (subst (λ (p : List ℕ). IfOk result (λ r. r ≡ no_system_report p refusal)) is says))
 
   pub asked_fault : (kind : Fault) (result : Result Report NoMemory) → Fails t a b (Some kind) → IfOk result (λ r. r ≡ outside kind) → Ended t (asked_plan a b (Some (asked.Run run))) a b result
-  asked_fault kind result fails says = ended_failed t (goal b) a b kind result (quiet_asked a b (Some (asked.Run run))) unchanged fails says
+  asked_fault kind result fails says = ended_failed t (goal b) a b kind result (λ told. quiet_system path a b run (system_at (world_now a) (conf_path run.place)) (once told)) unchanged fails says
 
   pub asked_memory : (memory : NoMemory) → Ended t (asked_plan a b (Some (asked.Run run))) a b (Err memory)
   asked_memory memory = ended_memory t (goal b) a b memory (ways_unchanged t (goal b).effect a b unchanged)
@@ -123,12 +126,19 @@ module _ (t : Bool) (run : Run) (path : List ℕ) (is : path ≡ conf_path run.p
 
 no_conf : (command : Command) (r : Report) → CommandTexts command r → r.outcome ≡ end.NoConfig → ⊥
 no_conf (WriteSlot slot image) r h e = subst (λ (o : Outcome). SlotTexts slot image o r) e h
+no_conf (Info bundle form) r h e = subst (λ (o : Outcome). InfoTexts form o r) e h
 
 no_bad_conf : (command : Command) (r : Report) (refusal : BadConf) → CommandTexts command r → r.outcome ≡ end.BadConfig refusal → ⊥
 no_bad_conf (WriteSlot slot image) r refusal h e = subst (λ (o : Outcome). SlotTexts slot image o r) e h
+no_bad_conf (Info bundle form) r refusal h e = subst (λ (o : Outcome). InfoTexts form o r) e h
 
-outside_text : (command : Command) (r : Report) (kind : Fault) → CommandTexts command r → r.outcome ≡ end.Outside kind → r ≡ outside kind
-outside_text (WriteSlot slot image) r kind h e = subst (λ (o : Outcome). SlotTexts slot image o r) e h
+outside_texts : (command : Command) (kind : Fault) → CommandTexts command (outside kind)
+outside_texts (WriteSlot slot image) kind = refl
+outside_texts (Info bundle form) kind = (closing.NotMounted, refl)
+
+pub texts_outside : (run : Run) (kind : Fault) (result : Result Report NoMemory) → IfOk result (λ r. r ≡ outside kind) → IfOk result (HasTexts (Some (asked.Run run)))
+texts_outside run kind (Ok r) is = subst (λ (x : Report). HasTexts (Some (asked.Run run)) x) (sym is) (outside_texts run.command kind)
+texts_outside run kind (Err memory) is = tt
 
 run_texts : (run : Run) (r : Report) (o : Outcome) → r.outcome ≡ o → CommandTexts run.command r → RunTexts run o r
 run_texts run r end.Done e h = h
@@ -136,8 +146,9 @@ run_texts run r end.Help e h = h
 run_texts run r end.Usage e h = h
 run_texts run r end.NoConfig e h = absurd (no_conf run.command r h e)
 run_texts run r (end.BadConfig refusal) e h = absurd (no_bad_conf run.command r refusal h e)
+run_texts run r (end.Info refusal) e h = h
 run_texts run r (end.Slot refusal) e h = h
-run_texts run r (end.Outside kind) e h = outside_text run.command r kind h e
+run_texts run r (end.Outside kind) e h = h
 run_texts run r end.NoMemory e h = h
 
 pub texts_command : (run : Run) (result : Result Report NoMemory) → IfOk result (CommandTexts run.command) → IfOk result (HasTexts (Some (asked.Run run)))
@@ -150,6 +161,7 @@ counted_later f g k m n p end.Help fs ms h = (omega (arith, fs, h.0), omega (ari
 counted_later f g k m n p end.Usage fs ms h = (omega (arith, fs, h.0), omega (arith, ms, h.1))
 counted_later f g k m n p end.NoConfig fs ms h = (omega (arith, fs, h.0), omega (arith, ms, h.1))
 counted_later f g k m n p (end.BadConfig refusal) fs ms h = (omega (arith, fs, h.0), omega (arith, ms, h.1))
+counted_later f g k m n p (end.Info refusal) fs ms h = (omega (arith, fs, h.0), omega (arith, ms, h.1))
 counted_later f g k m n p (end.Slot refusal) fs ms h = (omega (arith, fs, h.0), omega (arith, ms, h.1))
 counted_later f g k m n p (end.Outside kind) fs ms h =
     ((omega (arith, fs, h.0.0), λ same. omega (arith, fs, h.0.0, h.0.1 (omega (arith, fs, h.0.0, same)))), omega (arith, ms, h.1))

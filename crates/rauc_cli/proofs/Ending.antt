@@ -1,60 +1,46 @@
 -- A plan is carried out.
-use Rattle.std.proofs.Common.{◌≡◌, ◌++◌, inl, inr, ⊎_elim, ℕ, Bool, true, false, cond, List, [], ◌∷◌, Option, Some, None, Result, Ok, Err, IsTrue, IfOk, refl, sym, ◌∙◌, ap, subst}
+use Rattle.std.proofs.Common.{◌≡◌, ℕ, Bool, false, List, [], Option, Some, None, Result, Ok, Err, IsTrue, IfOk, refl, sym, ◌∙◌, ap, subst}
 use Rattle.updater_text.specs.declared.stops.NoMemory.{NoMemory}
 use Rattle.machine.specs.declared.stops.Fault.{Fault}
 use Rattle.machine.specs.declared.world.World.{World}
-use Rattle.machine.specs.Past.{Call, End, Done, Broken, Overlong, Moment, Past, Always, Fails, Grows, failed_or, failed_since, first_failed, kind_of, moments_since, world_now}
+use Rattle.machine.specs.Past.{Moment, Past, Always, Fails, Grows, failed_since, first_failed, moments_since, world_now}
 use Rattle.machine.specs.Frames.{DiffersOnlyIn, Unchanged}
-use Rattle.machine.proofs.Moments.{always_joins, always_weaker, made_joins, made_none}
+use Rattle.machine.specs.Runs.{LeftAlone, first_failed_but}
+use Rattle.machine.proofs.CallsMade.{but_joins, but_nothing}
+use Rattle.machine.proofs.Moments.{always_joins, always_weaker, made_none}
 use Rattle.machine.proofs.Joins.{now_unchanged, unchanged_none}
 use Rattle.machine.proofs.Only.{only_refl}
+use Rattle.machine.proofs.Running.{left_alone_refl}
 use Rattle.rauc_cli.specs.declared.outcome.Report.{Report}
 use Rattle.rauc_cli.specs.Lines.{fault_report, outside}
-use Rattle.rauc_cli.specs.Plans.{Plan, Effect, Nothing, Front, AtTheEnd, OnTheWay, fault_in, first_fault, planned_report, report_of, to_report}
+use Rattle.rauc_cli.specs.Plans.{Plan, Effect, Nothing, Front, Children, AtTheEnd, OnTheWay, fault_in, planned_report, report_of, to_report}
 use Rattle.rauc_cli.specs.Ends.{Ended}
 
--- ---- the first call that failed
-
-none_later : (end : End) (kind : Fault) (later : Option Fault) → failed_or end kind later ≡ None → later ≡ None
-none_later Done kind later e = e
-none_later Overlong kind later e = e
-none_later Broken kind later e = absurd (cc)
-
-none_here : (end : End) (kind : Fault) (later other after : Option Fault) → failed_or end kind later ≡ None → other ≡ after → failed_or end kind other ≡ after
-none_here Done kind later other after e h = h
-none_here Overlong kind later other after e h = h
-none_here Broken kind later other after e h = absurd (cc)
-
-first_after : (passes : Call → Bool) (ms ns : List Moment) → first_failed ms ≡ None → first_fault passes (ms ++ ns) ≡ first_fault passes ns
-first_after passes [] ns e = refl
-first_after passes (m ∷ ms) ns e =
-    let rest = first_after passes ms ns (none_later m.end (kind_of m.call) (first_failed ms) e) in
-    elim (passes m.call) as (λ b. cond b (first_fault passes (ms ++ ns)) (failed_or m.end (kind_of m.call) (first_fault passes (ms ++ ns))) ≡ first_fault passes ns) [
-      | true ↦ rest
-      | false ↦ none_here m.end (kind_of m.call) (first_failed ms) (first_fault passes (ms ++ ns)) (first_fault passes ns) e rest
-    ]
-
-first_quiet : (ms : List Moment) → first_fault (λ call. false) ms ≡ first_failed ms
-first_quiet [] = refl
-first_quiet (m ∷ ms) = ap (λ (later : Option Fault). failed_or m.end (kind_of m.call) later) (first_quiet ms)
-
 fault_after : (p : Plan) (a b c : Past) → Grows a b → Grows b c → failed_since a b ≡ None → fault_in p a c ≡ fault_in p b c
-fault_after p a b c ab bc none =
-    ap (λ (ms : List Moment). first_fault p.passes ms) (made_joins a b c ab bc) ∙ first_after p.passes (moments_since a b) (moments_since b c) none
+fault_after p a b c ab bc none = but_joins p.passes a b c ab bc none
 
 -- ---- plans with no lines beside the report, in which each failed call counts
 
 pub record IsQuiet (p : Plan) : Type 0 where
   pub notes : p.notes ≡ []
   pub warnings : p.warnings ≡ []
-  pub passes : (ms : List Moment) → first_fault p.passes ms ≡ first_failed ms
+  pub passes : (ms : List Moment) → first_failed_but p.passes ms ≡ first_failed ms
+
+-- the same of what was done since a
+pub record IsQuietSince (p : Plan) (a b : Past) : Type 0 where
+  pub notes : p.notes ≡ []
+  pub warnings : p.warnings ≡ []
+  pub fault : fault_in p a b ≡ failed_since a b
 
 pub quiet_report : (report : Report) (effect : Effect) → IsQuiet (to_report report effect)
-quiet_report report effect = record { notes = refl; warnings = refl; passes = first_quiet }
+quiet_report report effect = record { notes = refl; warnings = refl; passes = but_nothing }
 
-pub report_quiet : (p : Plan) (kind : Fault) → IsQuiet p → report_of p (Some kind) ≡ outside kind
-report_quiet p kind quiet =
-    ap (λ (notes : List ℕ). fault_report notes p.warnings kind) quiet.notes ∙ ap (λ (warnings : List ℕ). fault_report [] warnings kind) quiet.warnings
+pub quiet_since : (p : Plan) (a b : Past) → IsQuiet p → IsQuietSince p a b
+quiet_since p a b quiet = record { notes = quiet.notes; warnings = quiet.warnings; fault = quiet.passes (moments_since a b) }
+
+pub report_quiet : (p : Plan) (kind : Fault) → p.notes ≡ [] → p.warnings ≡ [] → report_of p (Some kind) ≡ outside kind
+report_quiet p kind notes warnings =
+    ap (λ (notes : List ℕ). fault_report notes p.warnings kind) notes ∙ ap (λ (warnings : List ℕ). fault_report [] warnings kind) warnings
 
 pub some_none : (kind : Fault) → Some kind ≡ None → ⊥
 some_none kind e = cc
@@ -63,6 +49,7 @@ some_none kind e = cc
 
 way_same : (e : Effect) (w u : World) → u ≡ w → OnTheWay e w u
 way_same Nothing w u h = h
+way_same (Children spares children) w u h = subst (λ (x : World). LeftAlone spares children w x) (sym h) (left_alone_refl spares children w)
 way_same (Front image device written) w u h = subst (λ (x : World). DiffersOnlyIn device 0 written.size w x) (sym h) (only_refl device 0 written.size w)
 
 pub ways_unchanged : (t : Bool) (e : Effect) (a b : Past) → Unchanged t a b → IsTrue t → Always a b (OnTheWay e (world_now a))
@@ -79,18 +66,18 @@ ended_wanting t p a memory = ended_memory t p a a memory (ways_unchanged t p.eff
 pub ended_here : (t : Bool) (report : Report) (a : Past) (result : Result Report NoMemory) → IfOk result (λ r. r ≡ report) → Ended t (to_report report Nothing) a a result
 ended_here t report a (Ok r) is = record {
   on_the_way = ways_unchanged t Nothing a a (unchanged_none t a);
-  reported = λ told. is ∙ sym (ap (λ (ms : List Moment). report_of (to_report report Nothing) (first_fault (λ call. false) ms)) (made_none a));
+  reported = λ told. is ∙ sym (ap (λ (ms : List Moment). report_of (to_report report Nothing) (first_failed_but (λ call. false) ms)) (made_none a));
   at_the_end = λ told none. refl;
 }
 ended_here t report a (Err memory) is = ended_wanting t (to_report report Nothing) a memory
 
 -- a call failed that changed nothing
-pub ended_failed : (t : Bool) (p : Plan) (a b : Past) (kind : Fault) (result : Result Report NoMemory) → IsQuiet p → Unchanged t a b → Fails t a b (Some kind) → IfOk result (λ r. r ≡ outside kind) → Ended t p a b result
+pub ended_failed : (t : Bool) (p : Plan) (a b : Past) (kind : Fault) (result : Result Report NoMemory) → (IsTrue t → IsQuietSince p a b) → Unchanged t a b → Fails t a b (Some kind) → IfOk result (λ r. r ≡ outside kind) → Ended t p a b result
 ended_failed t p a b kind (Ok r) quiet unchanged fails is =
-    let fault : IsTrue t → fault_in p a b ≡ Some kind = λ told. quiet.passes (moments_since a b) ∙ fails.first told in
+    let fault : IsTrue t → fault_in p a b ≡ Some kind = λ told. (quiet told).fault ∙ fails.first told in
     record {
       on_the_way = ways_unchanged t p.effect a b unchanged;
-      reported = λ told. is ∙ sym (report_quiet p kind quiet) ∙ sym (ap (λ (o : Option Fault). report_of p o) (fault told));
+      reported = λ told. is ∙ sym (report_quiet p kind (quiet told).notes (quiet told).warnings) ∙ sym (ap (λ (o : Option Fault). report_of p o) (fault told));
       at_the_end = λ told none. absurd (some_none kind (sym (fault told) ∙ none));
     }
 ended_failed t p a b kind (Err memory) quiet unchanged fails is = ended_memory t p a b memory (ways_unchanged t p.effect a b unchanged)

@@ -1,26 +1,23 @@
 -- How the program ends.
-use Rattle.std.proofs.Common.{◌≡◌, ◌≤◌, inl, inr, ⊎_elim, ℕ, Bool, List, Option, Some, None, Result, Ok, Err, IsTrue, refl, sym, ◌∙◌, ap, subst}
+use Rattle.std.proofs.Common.{◌≡◌, inl, inr, ℕ, Bool, List, Option, Some, None, Result, Ok, Err, IsTrue, refl, sym, ◌∙◌, ap, subst}
 use Rattle.updater_text.specs.Counts.{CountRose}
 use Rattle.updater_text.specs.Sinks.{Shown, WritesBoth}
 use Rattle.updater_text.specs.declared.stops.NoMemory.{NoMemory}
 use Rattle.machine.specs.declared.stops.Fault.{Fault}
 use Rattle.machine.specs.declared.world.World.{World}
 use Rattle.machine.specs.Past.{Past, Held, world_now}
-use Rattle.rauc_words.specs.Table.{command_of, conf_path}
+use Rattle.rauc_words.specs.Table.{command_of}
 use Rattle.rauc_words.specs.declared.asked.Asked.{Asked}
 use Rattle.rauc_words.specs.declared.asked.Asked.TheVariants as asked
 use Rattle.rauc_words.specs.declared.asked.Command.{Command}
-use Rattle.rauc_words.specs.declared.asked.Command.TheVariants.{WriteSlot}
+use Rattle.rauc_words.specs.declared.asked.Command.TheVariants.{WriteSlot, Info}
 use Rattle.rauc_words.specs.declared.asked.Run.{Run}
 use Rattle.rauc_cli.specs.declared.outcome.Outcome.{Outcome}
 use Rattle.rauc_cli.specs.declared.outcome.Outcome.TheVariants as end
 use Rattle.rauc_cli.specs.declared.outcome.Report.{Report}
-use Rattle.rauc_cli.specs.declared.outcome.Finish.{Finish}
 use Rattle.rauc_cli.specs.Lines.{memory_report}
 use Rattle.rauc_cli.specs.Plans.{AfterAStop, Plan, fault_in, plan_of, report_of}
-use Rattle.rauc_cli.specs.Ends.{AsksFor, CarriesOut, CommandTexts, Ended, HasCause, HasTexts, OutcomeCounted, Reports, RunTexts, SlotTexts, StandsAStop}
-use Rattle.rauc_cli.proofs.Ending.{report_quiet}
-use Rattle.rauc_cli.proofs.Commands.{quiet_asked}
+use Rattle.rauc_cli.specs.Ends.{AsksFor, CarriesOut, CommandTexts, Ended, HasCause, HasTexts, InfoTexts, OutcomeCounted, Reports, RunTexts, SlotTexts, StandsAStop}
 use Rattle.rauc_cli.proofs.Sparing.{running_planned}
 use Rattle.rauc_cli.proofs.Stopping.{held_planned}
 
@@ -68,12 +65,15 @@ asks_run run end.Help report texts is = no_help run.command report texts is
   where
     no_help : (command : Command) (report : Report) → CommandTexts command report → report.outcome ≡ end.Help → ⊥
     no_help (WriteSlot slot image) report texts is = subst (λ (o : Outcome). SlotTexts slot image o report) is texts
+    no_help (Info bundle form) report texts is = subst (λ (o : Outcome). InfoTexts form o report) is texts
 asks_run run end.Usage report texts is = no_usage run.command report texts is
   where
     no_usage : (command : Command) (report : Report) → CommandTexts command report → report.outcome ≡ end.Usage → ⊥
     no_usage (WriteSlot slot image) report texts is = subst (λ (o : Outcome). SlotTexts slot image o report) is texts
+    no_usage (Info bundle form) report texts is = subst (λ (o : Outcome). InfoTexts form o report) is texts
 asks_run run end.NoConfig report texts is = tt
 asks_run run (end.BadConfig refusal) report texts is = tt
+asks_run run (end.Info refusal) report texts is = tt
 asks_run run (end.Slot refusal) report texts is = tt
 asks_run run (end.Outside kind) report texts is = tt
 asks_run run end.NoMemory report texts is = tt

@@ -1,3 +1,4 @@
+pub mod BundleInfo
 pub mod Commands
 pub mod Ending
 pub mod Finishing

@@ -1,12 +1,8 @@
 -- The configuration's file.
-use Rattle.std.proofs.Common.{◌≡◌, ◌<◌, ℕ, Bool, true, List, length, Option, Some, None, Result, Ok, Err, IsTrue, refl, sym, ◌∙◌, ap, subst, arith, nat_lt}
+use Rattle.std.proofs.Common.{◌≡◌, ◌<◌, ℕ, true, List, length, Option, Some, None, Result, Err, refl, sym, ◌∙◌, ap, subst, arith, nat_lt}
 use Rattle.std.proofs.lemmas.Bool.Decides.{nat_tests}
 use Rattle.machine.specs.declared.stops.Stop.{Stop}
-use Rattle.machine.specs.declared.stops.Stop.TheVariants as stop
-use Rattle.machine.specs.declared.calls.ReadStop.TheVariants as read
-use Rattle.machine.specs.Calls.{ReadsFile}
 use Rattle.keyfile.specs.declared.fault.KeyFault.TheVariants as key
-use Rattle.system_conf.specs.Configuration.{Configuration}
 use Rattle.system_conf.specs.declared.system.System.{System}
 use Rattle.rauc_cli.specs.declared.conf.BadConf.TheVariants as bad
 use Rattle.rauc_cli.specs.declared.conf.NoSystem.{NoSystem}

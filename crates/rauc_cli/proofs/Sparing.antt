@@ -1,5 +1,11 @@
 -- What runs is not written by any plan.
-use Rattle.std.proofs.Common.{◌≡◌, ℕ, Bool, List, [], Option, Some, None, Result, Ok, Err, IsTrue, refl, sym, ◌∙◌, ap, subst, slice_get}
+use Rattle.std.proofs.Common.{◌≡◌, ◌||◌, ℕ, zero, suc, Bool, true, false, List, [], ◌∷◌, map, Option, Some, None, Result, Ok, Err, IsTrue, refl, sym, ◌∙◌, ap, subst, slice_get}
+use Rattle.std.proofs.lemmas.Slice.Eq.{bytes_eq-Decides}
+use Rattle.std.specs.List.{list_any}
+use Rattle.std.specs.Prelude.{bytes_eq}
+use Rattle.machine.specs.declared.world.Child.{Child}
+use Rattle.machine.specs.declared.world.Spares.{Spares}
+use Rattle.machine.specs.Spares.{has_disk}
 use Rattle.machine.specs.declared.world.World.{World}
 use Rattle.machine.specs.World.{file}
 use Rattle.machine.specs.Frames.{InRange}
@@ -18,7 +24,7 @@ use Rattle.rauc_words.specs.Table.{conf_path}
 use Rattle.rauc_words.specs.declared.asked.Asked.{Asked}
 use Rattle.rauc_words.specs.declared.asked.Asked.TheVariants as asked
 use Rattle.rauc_words.specs.declared.asked.Command.{Command}
-use Rattle.rauc_words.specs.declared.asked.Command.TheVariants.{WriteSlot}
+use Rattle.rauc_words.specs.declared.asked.Command.TheVariants.{WriteSlot, Info}
 use Rattle.rauc_words.specs.declared.asked.Run.{Run}
 use Rattle.slot_writer.specs.declared.refusal.SlotRefusal.{SlotRefusal}
 use Rattle.slot_writer.specs.declared.refusal.SlotWritten.{SlotWritten}
@@ -27,9 +33,8 @@ use Rattle.slot_writer.specs.Slots.{slot_answer}
 use Rattle.running_system.proofs.SlotsKept.{kept_but}
 use Rattle.slot_writer.proofs.Sparing.{not_written}
 use Rattle.rauc_cli.specs.Conf.{of_conf, of_file, of_groups, system_at, system_in}
-use Rattle.rauc_cli.specs.declared.conf.BadConf.{BadConf}
 use Rattle.rauc_cli.specs.declared.conf.NoSystem.{NoSystem}
-use Rattle.rauc_cli.specs.Plans.{AfterAStop, Effect, Nothing, Front, asked_plan, booted_for, command_plan, slot_plan, slots_by, slots_for, system_plan}
+use Rattle.rauc_cli.specs.Plans.{AfterAStop, Effect, Nothing, Front, Children, asked_plan, booted_for, command_plan, slot_plan, slots_by, slots_for, system_plan}
 
 -- ---- the slots of a configuration have devices of their own
 
@@ -66,6 +71,7 @@ alone_in_file None system e = absurd (cc)
 effect_device : Effect → List ℕ
 effect_device Nothing = []
 effect_device (Front image device written) = device
+effect_device (Children spares children) = []
 
 module _ (a c : Past) (given : Option (List ℕ)) (image' device : List ℕ) (written : SlotWritten) (at : ℕ) (slot : Slot) (same : slot.device ≡ device) where
   abbrev IsBusyIn : List Slot → Type 0
@@ -81,6 +87,7 @@ module _ (a c : Past) (given : Option (List ℕ)) (image' device : List ℕ) (wr
   by_answer system name image (Err refusal) alone busy is e = let bad : ⊥ = cc in bad
 
   by_command : (system : Configuration) (command : Command) → same_device system.slots ≡ None → IsBusyIn system.slots → (command_plan a c system given command).effect ≡ front → ⊥
+  by_command system (Info bundle form) alone busy e = let bad : ⊥ = cc in bad
   by_command system (WriteSlot name image) alone busy e = by_answer system name image (slot_answer system.slots given name image (world_now a)) alone busy refl e
 
 by_system : (a c : Past) (run : Run) (image' device : List ℕ) (written : SlotWritten) (at : ℕ) (slot : Slot) → slot.device ≡ device → (r : Result Configuration NoSystem) → ((system : Configuration) → r ≡ Ok system → same_device system.slots ≡ None)
@@ -96,6 +103,44 @@ plan_spares a c (Some (asked.Run run)) image' device written e at slot there bus
 plan_spares a c (Some asked.Help) image' device written e at slot there busy same = let bad : ⊥ = cc in bad
 plan_spares a c None image' device written e at slot there busy same = let bad : ⊥ = cc in bad
 
+-- ---- what its children leave alone has all slots
+
+effect_spares : Effect → Spares
+effect_spares Nothing = record { disks = []; files = []; boot = false }
+effect_spares (Front image device written) = record { disks = []; files = []; boot = false }
+effect_spares (Children spares children) = spares
+
+has_device : (slots : List Slot) (at : ℕ) (slot : Slot) → slice_get slots at ≡ Some slot → list_any (λ p. bytes_eq p slot.device) (map (λ (s : Slot). s.device) slots) ≡ true
+has_device [] at slot e = absurd (cc)
+has_device (s ∷ ss) zero slot e =
+    let same : s ≡ slot = cc in
+    rw (ap (λ (x : Slot). bytes_eq x.device slot.device) same ∙ (bytes_eq-Decides slot.device slot.device).1 refl) refl
+has_device (s ∷ ss) (suc at) slot e = or_later (bytes_eq s.device slot.device) (list_any (λ p. bytes_eq p slot.device) (map (λ (x : Slot). x.device) ss)) (has_device ss at slot e)
+  where
+    or_later : (a b : Bool) → b ≡ true → (a || b) ≡ true
+    or_later true b h = refl
+    or_later false b h = h
+
+module _ (a c : Past) (spares : Spares) (children : List Child) (at : ℕ) (slot : Slot) where
+  answer_spares : (slots : List Slot) (name image : List ℕ) (r : Result SlotWritten SlotRefusal) → (slot_plan slots name image r).effect ≡ Children spares children → ⊥
+  answer_spares slots name image (Ok written) e = let bad : ⊥ = cc in bad
+  answer_spares slots name image (Err refusal) e = let bad : ⊥ = cc in bad
+
+  command_spares : (given : Option (List ℕ)) (system : Configuration) (command : Command) → (command_plan a c system given command).effect ≡ Children spares children → slice_get system.slots at ≡ Some slot → IsTrue (has_disk spares slot.device)
+  unfolding effect_spares
+  command_spares given system (WriteSlot name image) e there = absurd (answer_spares system.slots name image (slot_answer system.slots given name image (world_now a)) e)
+  command_spares given system (Info bundle form) e there =
+      subst (λ (s : Spares). IsTrue (has_disk s slot.device)) (ap effect_spares e) (has_device system.slots at slot there)
+
+  system_spares : (run : Run) (r : Result Configuration NoSystem) → (system_plan a c run r).effect ≡ Children spares children → slice_get (slots_by r) at ≡ Some slot → IsTrue (has_disk spares slot.device)
+  system_spares run (Ok system) e there = command_spares run.place.given system run.command e there
+  system_spares run (Err refusal) e there = let bad : ⊥ = cc in absurd bad
+
+  asked_spares : (asked : Option Asked) → (asked_plan a c asked).effect ≡ Children spares children → slice_get (slots_for asked (world_now a)) at ≡ Some slot → IsTrue (has_disk spares slot.device)
+  asked_spares (Some (asked.Run run)) e there = system_spares run (system_at (world_now a) (conf_path run.place)) e there
+  asked_spares (Some asked.Help) e there = let bad : ⊥ = cc in absurd bad
+  asked_spares None e there = let bad : ⊥ = cc in absurd bad
+
 -- so what runs keeps its bytes
 pub running_planned : (t : Bool) (asked : Option Asked) (a c : Past) → (IsTrue t → (v : World) → Held a c v → AfterAStop (asked_plan a c asked).effect (world_now a) v) → RunningKept t (slots_for asked (world_now a)) (booted_for asked (world_now a)) a c
 running_planned t asked a c left = by (asked_plan a c asked).effect refl left
@@ -104,5 +149,8 @@ running_planned t asked a c left = by (asked_plan a c asked).effect refl left
     by (Front image device written) is left =
         kept_but t (slots_for asked (world_now a)) (booted_for asked (world_now a)) a c (InRange device 0 written.size)
         (λ at slot there used i touched. plan_spares a c asked image device written is at slot there used touched.0) left
+    by (Children spares children) is left = record {
+      each = λ told v held at slot there used i settled. (left told v held).bytes slot.device (asked_spares a c spares children at slot asked is there) i settled;
+    }
     by Nothing is left =
         kept_but t (slots_for asked (world_now a)) (booted_for asked (world_now a)) a c (λ path i. ⊥) (λ at slot there used i touched. touched) left

@@ -1,5 +1,5 @@
 -- How the program ends.
-use Rattle.std.specs.Prelude.{◌≡◌, ◌≤◌, ◌⊎◌, ℕ, Bool, IsTrue, List, Option, Some, None, Result, Ok, Err, IfOk}
+use Rattle.std.specs.Prelude.{◌≡◌, ◌≤◌, ◌⊎◌, ℕ, Bool, IsTrue, List, [], Option, Some, None, Result, Ok, Err, IfOk}
 use Rattle.updater_text.specs.Counts.{CountRose}
 use Rattle.updater_text.specs.Sinks.{Shown, WritesBoth}
 use Rattle.updater_text.specs.declared.stops.NoMemory.{NoMemory}
@@ -12,9 +12,17 @@ use Rattle.rauc_words.specs.Table.{command_of, conf_path}
 use Rattle.rauc_words.specs.declared.asked.Asked.{Asked}
 use Rattle.rauc_words.specs.declared.asked.Asked.TheVariants as asked
 use Rattle.rauc_words.specs.declared.asked.Command.{Command}
-use Rattle.rauc_words.specs.declared.asked.Command.TheVariants.{WriteSlot}
+use Rattle.rauc_words.specs.declared.asked.Command.TheVariants.{WriteSlot, Info}
 use Rattle.rauc_words.specs.declared.asked.Run.{Run}
 use Rattle.system_conf.specs.declared.slot.Slot.{Slot}
+use Rattle.updater_text.specs.declared.form.Form.{Form}
+use Rattle.manifest.specs.Contents.{Content}
+use Rattle.manifest.specs.Reads.{manifest_content}
+use Rattle.manifest.specs.declared.content.Manifest.{Manifest}
+use Rattle.child_steps.specs.declared.close.Closing.{Closing}
+use Rattle.child_steps.specs.declared.close.Closing.TheVariants as closing
+use Rattle.mark_report.specs.declared.bundle_info.InfoRefusal.{InfoRefusal}
+use Rattle.mark_report.specs.declared.bundle_info.InfoRefusal.TheVariants.{Mount, Bundle}
 use Rattle.slot_writer.specs.declared.refusal.SlotRefusal.{SlotRefusal}
 use Rattle.slot_writer.specs.declared.refusal.SlotWritten.{SlotWritten}
 use Rattle.slot_writer.specs.Checks.{NamesSlot}
@@ -24,8 +32,8 @@ use Rattle.rauc_cli.specs.declared.outcome.Outcome.{Outcome}
 use Rattle.rauc_cli.specs.declared.outcome.Outcome.TheVariants as end
 use Rattle.rauc_cli.specs.declared.outcome.Report.{Report}
 use Rattle.rauc_cli.specs.declared.outcome.Finish.{Finish}
-use Rattle.rauc_cli.specs.Lines.{help_report, memory_report, no_system_report, outside, slot_refusal_report, usage_report, written_report}
-use Rattle.rauc_cli.specs.Plans.{Plan, AfterAStop, AtTheEnd, OnTheWay, booted_for, fault_in, plan_of, planned_report, report_of, slots_for}
+use Rattle.rauc_cli.specs.Lines.{closing_warnings, fault_report, help_report, info_refusal_report, memory_report, no_system_report, outside, slot_refusal_report, told_report, usage_report, written_report}
+use Rattle.rauc_cli.specs.Plans.{Plan, AfterAStop, AtTheEnd, OnTheWay, booted_for, fault_in, plan_of, planned_report, slots_for}
 
 -- ---- texts: told or not, a report's texts are those of its outcome
 
@@ -36,15 +44,25 @@ SlotTexts slot image (end.Slot refusal) report = (slots : List Slot) × NamesSlo
 SlotTexts slot image (end.Outside kind) report = report ≡ outside kind
 SlotTexts slot image outcome report = ⊥
 
+-- info, by the outcome; the bundle was mounted where its manifest was read, and not where the mount was refused
+abbrev pub InfoTexts : Form → Outcome → Report → Type 0
+InfoTexts form end.Done report =
+    (content : Content) × (closed : Closing) × (closed ≡ closing.NotMounted → ⊥) × (report ≡ told_report form closed content)
+InfoTexts form (end.Info (Mount refusal)) report = report ≡ info_refusal_report closing.NotMounted (Mount refusal)
+InfoTexts form (end.Info (Bundle refusal)) report =
+    (closed : Closing) × (closed ≡ closing.NotMounted → ⊥) × (report ≡ info_refusal_report closed (Bundle refusal))
+InfoTexts form (end.Outside kind) report = (closed : Closing) × (report ≡ fault_report [] (closing_warnings closed) kind)
+InfoTexts form outcome report = ⊥
+
 -- each command
 abbrev pub CommandTexts : Command → Report → Type 0
 CommandTexts (WriteSlot slot image) report = SlotTexts slot image report.outcome report
+CommandTexts (Info bundle form) report = InfoTexts form report.outcome report
 
 -- a command, or the lack of a system for it
 abbrev pub RunTexts : Run → Outcome → Report → Type 0
 RunTexts run end.NoConfig report = report ≡ no_system_report (conf_path run.place) Missing
 RunTexts run (end.BadConfig refusal) report = report ≡ no_system_report (conf_path run.place) (Bad refusal)
-RunTexts run (end.Outside kind) report = report ≡ outside kind
 RunTexts run outcome report = CommandTexts run.command report
 
 -- what words ask for: `Help` exactly for help, and `Usage` exactly for words that ask for nothing
@@ -74,6 +92,14 @@ SaysSlot slots slot image (Err (stop.Refused refusal)) (Ok report) = report ≡ 
 SaysSlot slots slot image (Err (stop.Outside kind)) (Ok report) = report ≡ outside kind
 SaysSlot slots slot image (Err stop.NoMemory) (Ok report) = ⊥
 SaysSlot slots slot image written (Err memory) = Unit {0}
+
+-- what is reported of info
+abbrev pub SaysInfo : Form → Result Manifest (Stop InfoRefusal) → Closing → Result Report NoMemory → Type 0
+SaysInfo form (Ok manifest) closed (Ok report) = report ≡ told_report form closed (manifest_content manifest)
+SaysInfo form (Err (stop.Refused refusal)) closed (Ok report) = report ≡ info_refusal_report closed refusal
+SaysInfo form (Err (stop.Outside kind)) closed (Ok report) = report ≡ fault_report [] (closing_warnings closed) kind
+SaysInfo form (Err stop.NoMemory) closed (Ok report) = ⊥
+SaysInfo form answer closed (Err memory) = Unit {0}
 
 -- a plan was carried out, with this report, or memory ran out
 pub record Ended (tells : Bool) (plan : Plan) (old new : Past) (result : Result Report NoMemory) : Type 0 where

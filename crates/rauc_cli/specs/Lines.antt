@@ -1,9 +1,17 @@
 -- What is put on standard output and standard error, and the exit status.
-use Rattle.std.specs.Prelude.{ℕ, Bool, true, false, List, [], ◌++◌, ◌==◌, codes, decimal, length, if◌then◌else◌}
+use Rattle.std.specs.Prelude.{ℕ, Bool, true, false, List, [], ◌++◌, codes, decimal, Option, Some, None, Result, Ok, Err}
+use Rattle.std.specs.Option.{option_map_or}
 use Rattle.hex.specs.Hex.{encode_lower}
 use Rattle.machine.specs.declared.stops.Fault.{Fault}
 use Rattle.machine.specs.declared.stops.Fault.TheVariants as fault
 use Rattle.keyfile.specs.Causes.{key_cause}
+use Rattle.updater_text.specs.declared.form.Form.{Form}
+use Rattle.manifest.specs.Contents.{Content}
+use Rattle.child_steps.specs.Causes.{closing_cause}
+use Rattle.child_steps.specs.declared.close.Closing.{Closing}
+use Rattle.mark_report.specs.Causes.{info_cause}
+use Rattle.mark_report.specs.Info.{info_text}
+use Rattle.mark_report.specs.declared.bundle_info.InfoRefusal.{InfoRefusal}
 use Rattle.rauc_cli.specs.declared.conf.BadConf.{BadConf}
 use Rattle.rauc_cli.specs.declared.conf.BadConf.TheVariants as bad
 use Rattle.rauc_cli.specs.declared.conf.NoSystem.{NoSystem}
@@ -85,6 +93,32 @@ outside kind = fault_report [] [] kind
 -- out of memory
 abbrev pub memory_report : Report
 memory_report = error_report end.NoMemory (codes "out of memory")
+
+-- ---- info
+
+-- the warning of a bundle that was not unmounted
+abbrev pub warning_line : List ℕ → List ℕ
+warning_line why = codes "warning: bundle not unmounted: " ++ (why ++ codes "\n")
+
+-- none where it was, or was never mounted
+abbrev pub closing_warnings : Closing → List ℕ
+closing_warnings closed = option_map_or warning_line (closing_cause closed) []
+
+-- the report of what the manifest of a bundle says
+abbrev pub told_report : Form → Closing → Content → Report
+told_report form closed content = record { outcome = end.Done; out = info_text form content; err = closing_warnings closed }
+
+-- the report of a bundle that is refused
+abbrev pub info_refusal_report : Closing → InfoRefusal → Report
+info_refusal_report closed refusal = record { outcome = end.Info refusal; out = []; err = closing_warnings closed ++ error_line (info_cause refusal) }
+
+-- the report of what there is to tell; there is none where memory ran out
+abbrev pub info_report : Form → Closing → Option (Result Content InfoRefusal) → Report
+info_report form closed None = memory_report
+info_report form closed (Some (Ok content)) = told_report form closed content
+info_report form closed (Some (Err refusal)) = info_refusal_report closed refusal
+
+-- ---- the configuration, and write-slot
 
 -- no system to work on
 abbrev pub system_outcome : NoSystem → Outcome

@@ -1,14 +1,17 @@
 -- What a call of the program comes to, from its words and from the past since its start.
-use Rattle.std.specs.Prelude.{◌≡◌, ◌<◌, ℕ, Bool, false, List, [], ◌∷◌, ◌++◌, Option, Some, None, Result, Ok, Err, if◌then◌else◌}
+use Rattle.std.specs.Prelude.{◌≡◌, ℕ, Bool, false, List, [], Option, Some, None, Result, Ok, Err}
 use Rattle.machine.specs.declared.stops.Fault.{Fault}
 use Rattle.machine.specs.declared.world.World.{World}
-use Rattle.machine.specs.Past.{Call, Moment, Past, failed_or, kind_of, moments_since, world_now}
+use Rattle.machine.specs.declared.world.Child.{Child}
+use Rattle.machine.specs.declared.world.Spares.{Spares}
+use Rattle.machine.specs.Past.{Call, Past, moments_since, world_now}
+use Rattle.machine.specs.Runs.{LeftAlone, LeftByAStop, first_failed_but, is_run_of}
 use Rattle.machine.specs.Frames.{DiffersOnlyIn, InRange, SameBut}
 use Rattle.raw_writer.specs.Whole.{IsWritten}
 use Rattle.rauc_words.specs.declared.asked.Asked.{Asked}
 use Rattle.rauc_words.specs.declared.asked.Asked.TheVariants as asked
 use Rattle.rauc_words.specs.declared.asked.Command.{Command}
-use Rattle.rauc_words.specs.declared.asked.Command.TheVariants.{WriteSlot}
+use Rattle.rauc_words.specs.declared.asked.Command.TheVariants.{WriteSlot, Info}
 use Rattle.rauc_words.specs.declared.asked.Run.{Run}
 use Rattle.rauc_words.specs.Table.{command_of, conf_path}
 use Rattle.system_conf.specs.Configuration.{Configuration}
@@ -16,34 +19,45 @@ use Rattle.system_conf.specs.declared.slot.Slot.{Slot}
 use Rattle.slot_graph.specs.declared.state.Booted.{Booted}
 use Rattle.slot_writer.specs.declared.refusal.SlotRefusal.{SlotRefusal}
 use Rattle.slot_writer.specs.declared.refusal.SlotWritten.{SlotWritten}
+use Rattle.updater_text.specs.declared.form.Form.{Form}
+use Rattle.child_steps.specs.Children.{helper_spares, umount_child}
+use Rattle.child_steps.specs.Closing.{closing_in}
+use Rattle.child_steps.specs.declared.close.Closing.{Closing}
+use Rattle.manifest.specs.Contents.{Content}
+use Rattle.mark_report.specs.declared.bundle_info.InfoRefusal.{InfoRefusal}
+use Rattle.mark_report.specs.Opening.{info_children, info_in}
 use Rattle.running_system.specs.Running.{what_runs}
 use Rattle.slot_writer.specs.Slots.{piece, slot_answer, slot_device}
 use Rattle.rauc_cli.specs.declared.conf.NoSystem.{NoSystem}
 use Rattle.rauc_cli.specs.declared.outcome.Report.{Report}
 use Rattle.rauc_cli.specs.Conf.{system_at}
-use Rattle.rauc_cli.specs.Lines.{fault_report, help_report, no_system_report, slot_refusal_report, usage_report, written_report}
+use Rattle.rauc_cli.specs.Lines.{closing_warnings, fault_report, help_report, info_report, no_system_report, slot_refusal_report, usage_report, written_report}
 
 -- ---- effects: what a command may change
 
--- nothing, or the front of a device
+-- nothing, or the front of a device, or what these children need not leave alone
 pub data Effect : Type 0 where
   Nothing : Effect
   Front : (image device : List ℕ) (written : SlotWritten) → Effect
+  Children : (spares : Spares) (children : List Child) → Effect
 
 -- each world u on the way, inside the calls too
 abbrev pub OnTheWay : Effect → World → World → Type 0
 OnTheWay Nothing w u = u ≡ w
 OnTheWay (Front image device written) w u = DiffersOnlyIn device 0 written.size w u
+OnTheWay (Children spares children) w u = LeftAlone spares children w u
 
 -- the world v at the end, where all was done
 abbrev pub AtTheEnd : Effect → World → World → Type 0
 AtTheEnd Nothing w v = v ≡ w
 AtTheEnd (Front image device written) w v = IsWritten image device piece written.size written.digest w v
+AtTheEnd (Children spares children) w v = LeftAlone spares children w v
 
 -- the world v that a stop of the power may leave
 abbrev pub AfterAStop : Effect → World → World → Type 0
 AfterAStop Nothing w v = SameBut (λ path i. ⊥) w v
 AfterAStop (Front image device written) w v = SameBut (InRange device 0 written.size) w v
+AfterAStop (Children spares children) w v = LeftByAStop spares children w v
 
 -- ---- plans: what is reported, and what may be changed
 
@@ -59,14 +73,9 @@ pub record Plan : Type 0 where
 abbrev pub to_report : Report → Effect → Plan
 to_report report effect = record { report = report; notes = []; warnings = []; passes = λ call. false; effect = effect }
 
--- the kind of the first of these calls that failed, those passed over apart
-abbrev pub first_fault : (Call → Bool) → List Moment → Option Fault
-first_fault passes [] = None
-first_fault passes (m ∷ ms) = if passes m.call then first_fault passes ms else failed_or m.end (kind_of m.call) (first_fault passes ms)
-
--- the kind of the first call since old that failed
+-- the kind of the first call since old that failed, but for those that are passed over
 abbrev pub fault_in : Plan → Past → Past → Option Fault
-fault_in plan old new = first_fault plan.passes (moments_since old new)
+fault_in plan old new = first_failed_but plan.passes (moments_since old new)
 
 -- what is reported, with the kind of the first call that failed
 abbrev pub report_of : Plan → Option Fault → Report
@@ -84,10 +93,22 @@ abbrev pub slot_plan : List Slot → List ℕ → List ℕ → Result SlotWritte
 slot_plan slots slot image (Ok written) = to_report (written_report slot written.size written.digest.0) (Front image (slot_device slots slot) written)
 slot_plan slots slot image (Err refusal) = to_report (slot_refusal_report slots image refusal) Nothing
 
+-- info, by what came of the unmount and by its answer; an unmount that failed is a warning, and no fault
+abbrev pub info_plan : Form → Configuration → List ℕ → Closing → Option (Result Content InfoRefusal) → Plan
+info_plan form system bundle closed answer = record {
+  report = info_report form closed answer;
+  notes = [];
+  warnings = closing_warnings closed;
+  passes = is_run_of (umount_child system);
+  effect = Children (helper_spares system []) (info_children system bundle);
+}
+
 -- each command, with its configuration and the name that counts as booted, where one is given
 abbrev pub command_plan : Past → Past → Configuration → Option (List ℕ) → Command → Plan
 command_plan old new system given (WriteSlot slot image) =
     slot_plan system.slots slot image (slot_answer system.slots given slot image (world_now old))
+command_plan old new system given (Info bundle form) =
+    info_plan form system bundle (closing_in (umount_child system) old new) (info_in system old new)
 
 -- a command, where its configuration can be had
 abbrev pub system_plan : Past → Past → Run → Result Configuration NoSystem → Plan

@@ -1,6 +1,7 @@
 ghost use Rattle.std.specs.Prelude.{◌≡◌, IsTrue, None};
 ghost use Rattle.machine.specs.Frames.{Unchanged};
 ghost use Rattle.machine.specs.Past.{Fails, world_now};
+ghost use Rattle.machine.specs.Runs.{ReadsOnce};
 ghost use Rattle.machine.specs.Stops.{StopCounted, stop_fault};
 ghost use Rattle.rauc_cli.specs.Conf.{LoadsSystem, ReadsConf, conf_of, of_conf, system_at};
 
@@ -58,7 +59,7 @@ fn system_in(alloc: Global, bytes: &[u8]) -> Result<System, Stop<NoSystem>>
     }
 }
 
-/// Reads the system of the configuration at a path: `Missing` where no file is there, `Bad` where it
+/// Reads the system of the configuration at a path, by one call: `Missing` where no file is there, `Bad` where it
 /// has more than 1,048,576 bytes, is no key file, or says what is refused.
 pub fn load_system<M: Machine>(
     alloc: Global,
@@ -66,6 +67,7 @@ pub fn load_system<M: Machine>(
     path: &str,
 ) -> Result<System, Stop<NoSystem>>
     ensures unchanged { Unchanged M.tells (M.past m.old) (M.past m.new) }
+    ensures once { IsTrue M.tells → ReadsOnce path.now (M.past m.old) (M.past m.new) }
     ensures answers { IsTrue M.tells → LoadsSystem (system_at (world_now (M.past m.old)) path.now) result }
     ensures fails { Fails M.tells (M.past m.old) (M.past m.new) (stop_fault result) }
     ensures counts { StopCounted (M.faults m.old) (M.faults m.new) (M.wants m.old) (M.wants m.new) result }

@@ -2,11 +2,13 @@
 #![tactic(auto)]
 
 mod conf;
+mod info_lines;
 mod lines;
 mod outcome;
 mod run;
 
 pub use conf::{BadConf, NoSystem, load_system, read_conf};
+pub use mark_report::{Form, InfoRefusal};
 pub use outcome::{Finish, Outcome};
 pub use rauc_words::{Asked, Command, Place, Run, read_words};
 pub use run::rauc;

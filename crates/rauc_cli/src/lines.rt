@@ -1,14 +1,14 @@
 ghost use Rattle.std.specs.Prelude.{◌≡◌, ◌++◌, IfOk, codes, string_bytes};
-ghost use Rattle.rauc_cli.specs.Lines.{bad_conf_cause, error_report, fault_word, help_report, no_system_report, outside, slot_refusal_report, system_cause, system_outcome, usage_report, written_head, written_line, written_report};
+ghost use Rattle.rauc_cli.specs.Lines.{bad_conf_cause, error_report, fault_cause, fault_word, help_report, no_system_report, outside, slot_refusal_report, system_cause, system_outcome, usage_report, written_head, written_line, written_report};
 
 use crate::outcome::Report;
 use crate::{BadConf, NoSystem, Outcome};
 use keyfile::key_cause;
-use machine::Fault;
+use machine::{Fault, copy_bytes};
 use slot_writer::{SlotRefusal, slot_cause};
 use std::alloc::{AllocError, Global};
 use system_conf::{System, conf_cause};
-use updater_text::{Digest, NoMemory, Text};
+use updater_text::{Digest, Items, NoMemory, Text};
 
 /// What `--help` prints.
 const HELP: &str =
@@ -18,9 +18,10 @@ const HELP: &str =
 pub fn help_report(alloc: Global) -> Result<Report, NoMemory>
     ensures { IfOk result (λ r. r ≡ help_report) }
 {
+    let out = copy_bytes(alloc, HELP.as_bytes())?;
     Ok(Report {
         outcome: Outcome::Help,
-        out: Text::new(alloc, HELP)?,
+        out,
         err: Text::empty(alloc),
     })
 }
@@ -33,14 +34,19 @@ fn written_head(alloc: Global, slot: &str, size: u64) -> Result<String, AllocErr
 }
 
 // The line of a slot that was written.
-fn written_line(alloc: Global, slot: &str, size: u64, digest: &Digest) -> Result<Text, NoMemory>
+fn written_line(
+    alloc: Global,
+    slot: &str,
+    size: u64,
+    digest: &Digest,
+) -> Result<Items<u8>, NoMemory>
     ensures { IfOk result (λ t. t ≡ written_line slot.now size digest.now.0) }
 {
     let hex = digest.hex(alloc)?;
     let mut line = written_head(alloc, slot, size)?;
     line.push_str(hex.as_str())?;
     line.push_str("\n")?;
-    Ok(Text::from_string(line))
+    Ok(Items::from_vec(line.into_bytes()))
 }
 
 /// The report of a slot that was written.
@@ -118,7 +124,7 @@ fn error_report(alloc: Global, outcome: Outcome, cause: &str) -> Result<Report, 
     let line = format!(in alloc; "rauc: {cause}\n")?;
     Ok(Report {
         outcome,
-        out: Text::empty(alloc),
+        out: Items::new(alloc),
         err: Text::from_string(line),
     })
 }
@@ -130,12 +136,20 @@ pub fn usage_report(alloc: Global) -> Result<Report, NoMemory>
     error_report(alloc, Outcome::Usage, "bad usage, see rauc --help")
 }
 
-/// The report of a machine call of this kind that failed.
-pub fn outside(alloc: Global, kind: Fault) -> Result<Report, NoMemory>
-    ensures { IfOk result (λ r. r ≡ outside kind) }
+/// A machine call of this kind failed.
+pub fn fault_cause(alloc: Global, kind: Fault) -> Result<Text, NoMemory>
+    ensures { IfOk result (λ t. t ≡ fault_cause kind) }
 {
     let word = fault_word(kind);
     let cause = format!(in alloc; "outside fault: {word}")?;
+    Ok(Text::from_string(cause))
+}
+
+/// The report of that alone.
+pub fn outside(alloc: Global, kind: Fault) -> Result<Report, NoMemory>
+    ensures { IfOk result (λ r. r ≡ outside kind) }
+{
+    let cause = fault_cause(alloc, kind)?;
     error_report(alloc, Outcome::Outside(kind), cause.as_str())
 }
 

@@ -3,8 +3,9 @@ ghost use Rattle.rauc_cli.specs.Lines.{status_of};
 
 use crate::BadConf;
 use machine::Fault;
+use mark_report::InfoRefusal;
 use slot_writer::SlotRefusal;
-use updater_text::Text;
+use updater_text::{Items, Text};
 
 /// How a call of the program ended.
 #[derive(Debug, Drop)]
@@ -19,6 +20,8 @@ pub enum Outcome {
     NoConfig,
     /// The configuration is refused.
     BadConfig(BadConf),
+    /// `info` is refused.
+    Info(InfoRefusal),
     /// `write-slot` is refused.
     Slot(SlotRefusal),
     /// A call of the machine failed.
@@ -27,11 +30,11 @@ pub enum Outcome {
     NoMemory,
 }
 
-/// How a call of the program ended, and the texts for its two sinks.
+/// How a call of the program ended, and what is put on its two sinks.
 #[derive(Debug, Drop)]
 pub struct Report {
     pub outcome: Outcome,
-    pub out: Text,
+    pub out: Items<u8>,
     pub err: Text,
 }
 

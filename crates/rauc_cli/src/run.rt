@@ -2,18 +2,23 @@ ghost use Rattle.std.specs.Prelude.{◌≡◌, ℕ, List, IfOk, Some, option_map
 ghost use Rattle.machine.specs.Past.{world_now};
 ghost use Rattle.system_conf.specs.Reads.{system_configuration};
 ghost use Rattle.rauc_words.specs.Table.{command_of};
+ghost use Rattle.child_steps.specs.Children.{umount_child};
+ghost use Rattle.child_steps.specs.Closing.{closing_in};
+ghost use Rattle.mark_report.specs.Opening.{info_in};
 ghost use Rattle.rauc_words.specs.declared.asked.Asked.TheVariants as asked;
 ghost use Rattle.slot_writer.specs.Checks.{IfRefused, NamesSlot};
 ghost use Rattle.slot_writer.specs.Slots.{slot_answer};
-ghost use Rattle.rauc_cli.specs.Plans.{asked_plan, command_plan, plan_of, slot_plan};
-ghost use Rattle.rauc_cli.specs.Ends.{CarriesOut, CommandTexts, Ended, HasCause, HasTexts, OutcomeCounted, Reports, SaysSlot, SlotTexts, StandsAStop, outcome_in};
+ghost use Rattle.rauc_cli.specs.Plans.{asked_plan, command_plan, info_plan, plan_of, slot_plan};
+ghost use Rattle.rauc_cli.specs.Ends.{CarriesOut, CommandTexts, Ended, HasCause, HasTexts, InfoTexts, OutcomeCounted, Reports, SaysSlot, SlotTexts, StandsAStop, outcome_in};
 
+use crate::info_lines::info_report;
 use crate::lines::{
     help_report, no_system_report, outside, slot_refusal_report, usage_report, written_report,
 };
 use crate::outcome::Report;
 use crate::{Asked, Command, Finish, Outcome, Place, Run, load_system, read_words};
 use machine::{Machine, Stop};
+use mark_report::{Form, info};
 use slot_writer::{SlotRefusal, SlotWritten, write_slot};
 use std::alloc::Global;
 use system_conf::System;
@@ -55,6 +60,21 @@ fn run_write_slot<M: Machine>(
     slot_report(alloc, system, slot, image, written)
 }
 
+fn run_info<M: Machine>(
+    alloc: Global,
+    m: &mut M,
+    system: &System,
+    bundle: &str,
+    form: Form,
+) -> Result<Report, NoMemory>
+    ensures ended { Ended M.tells (info_plan form (system_configuration system.now) bundle.now (closing_in (umount_child (system_configuration system.now)) (M.past m.old) (M.past m.new)) (info_in (system_configuration system.now) (M.past m.old) (M.past m.new))) (M.past m.old) (M.past m.new) result }
+    ensures texts { IfOk result (λ r. InfoTexts form r.outcome r) }
+    ensures counts { OutcomeCounted (M.faults m.old) (M.faults m.new) (M.wants m.old) (M.wants m.new) (outcome_in result) }
+{
+    let end = info(alloc, m, system, bundle);
+    info_report(alloc, form, end)
+}
+
 // Carries out a command, with its configuration and the name that counts as booted.
 fn run_command<M: Machine>(
     alloc: Global,
@@ -71,6 +91,7 @@ fn run_command<M: Machine>(
         Command::WriteSlot { slot, image } => {
             run_write_slot(alloc, m, system, given, slot.as_str(), image.as_str())
         }
+        Command::Info { bundle, form } => run_info(alloc, m, system, bundle.as_str(), *form),
     }
 }
 
@@ -129,7 +150,7 @@ pub fn rauc<M: Machine, O: Sink, E: Sink>(
 {
     match run(alloc, machine, words) {
         Ok(report) => {
-            let told = tell(out, err, report.out.as_bytes(), report.err.as_bytes());
+            let told = tell(out, err, report.out.as_slice(), report.err.as_bytes());
             Finish {
                 outcome: report.outcome,
                 told,

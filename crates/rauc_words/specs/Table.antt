@@ -18,6 +18,8 @@ use Rattle.rauc_words.specs.declared.table.CommandKind.{CommandKind}
 use Rattle.rauc_words.specs.declared.table.CommandKind.TheVariants as kind
 use Rattle.rauc_words.specs.declared.table.CommandRow.{CommandRow}
 use Rattle.rauc_words.specs.declared.table.ExtraNames.{ExtraNames}
+use Rattle.updater_text.specs.declared.form.Form.{Form}
+use Rattle.updater_text.specs.declared.form.Form.TheVariants as form
 
 -- none of the options that not every command allows
 abbrev pub no_extras : ExtraNames
@@ -26,7 +28,8 @@ no_extras = record { output_format = false; socket = false; connections = false;
 -- the commands: each with its name, its positionals from the fewest to the most, and the options that it allows
 abbrev pub command_rows : List (Text × CommandRow)
 command_rows =
-    (codes "write-slot", record { kind = kind.WriteSlot; fewest = 2; most = 2; allowed = no_extras }) ∷ []
+    (codes "write-slot", record { kind = kind.WriteSlot; fewest = 2; most = 2; allowed = no_extras })
+    ∷ (codes "info", record { kind = kind.Info; fewest = 1; most = 1; allowed = record no_extras { output_format = true } }) ∷ []
 
 -- the row of a command by its name
 abbrev pub command_row : Text → Option CommandRow
@@ -36,9 +39,23 @@ command_row name = option_map (λ row. row.1) (find (λ row. bytes_eq name row.0
 abbrev pub write_slot_command : Option Text → Option Text → Option Command
 write_slot_command first second = option_and_then (λ slot. option_map (λ image. command.WriteSlot slot image) second) first
 
--- each command from its positionals
-abbrev pub build : CommandKind → Option Text → Option Text → Option Command
-build kind.WriteSlot first second = write_slot_command first second
+-- the values of `--output-format`, each with the form that it names
+abbrev pub form_rows : List (Text × Form)
+form_rows = (codes "readable", form.Readable) ∷ (codes "shell", form.Shell) ∷ []
+
+-- the form of a value of `--output-format`; without one it is readable
+abbrev pub form_of : Option Text → Option Form
+form_of None = Some form.Readable
+form_of (Some name) = option_map (λ row. row.1) (find (λ row. bytes_eq name row.0) form_rows)
+
+-- `info BUNDLE`, in the form of `--output-format`
+abbrev pub info_command : Option Text → Option Text → Option Command
+info_command first format = option_and_then (λ bundle. option_map (λ named. command.Info bundle named) (form_of format)) first
+
+-- each command from its positionals and the value of `--output-format`
+abbrev pub build : CommandKind → Option Text → Option Text → Option Text → Option Command
+build kind.WriteSlot first second format = write_slot_command first second
+build kind.Info first second format = info_command first format
 
 -- how many positionals follow the command's name
 abbrev pub positional_count : Positionals → ℕ
@@ -69,7 +86,8 @@ takes row line = nat_le row.fewest (positional_count line.positionals) && nat_le
 -- the command of a row, where it takes what the line gives
 abbrev pub row_command : CommandLine → CommandRow → Option Run
 row_command line row = if takes row line
-    then option_map (λ made. record { place = line.place; command = made }) (build row.kind line.positionals.first line.positionals.second)
+    then option_map (λ made. record { place = line.place; command = made })
+    (build row.kind line.positionals.first line.positionals.second line.extras.output_format)
     else None
 
 -- the command that the line names

@@ -1,7 +1,7 @@
 ghost use Rattle.std.specs.Prelude.{◌≡◌};
 ghost use Rattle.rauc_words.specs.Table.{conf_path};
 
-use updater_text::Text;
+use updater_text::{Form, Text};
 
 /// Where a configuration stands that no word names.
 const CONF: &str = "/etc/rauc/system.conf";
@@ -32,6 +32,8 @@ impl Place {
 pub enum Command {
     /// Writes the image at a path into the slot of this name.
     WriteSlot { slot: Text, image: Text },
+    /// Tells what the manifest of the bundle at a path says.
+    Info { bundle: Text, form: Form },
 }
 
 /// A command, and where it finds the system that it works on.

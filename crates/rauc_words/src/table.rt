@@ -1,10 +1,10 @@
 ghost use Rattle.std.specs.Prelude.{◌≡◌, IfOk};
-ghost use Rattle.rauc_words.specs.Table.{are_usable, build, command_in, command_of, command_row, extra_names, is_usable, are_allowed, positional_count, request_in, takes, write_slot_command};
+ghost use Rattle.rauc_words.specs.Table.{are_usable, build, command_in, command_of, command_row, extra_names, form_of, info_command, is_usable, are_allowed, positional_count, request_in, takes, write_slot_command};
 
 use crate::command_line::{CommandLine, Extras, Positionals, parse};
 use crate::{Asked, Command, Run};
 use std::alloc::Global;
-use updater_text::{NoMemory, Text};
+use updater_text::{Form, NoMemory, Text};
 
 /// Which of the options that not every command allows.
 #[derive(Clone, Copy)]
@@ -20,6 +20,7 @@ pub struct ExtraNames {
 #[derive(Clone, Copy)]
 pub enum CommandKind {
     WriteSlot,
+    Info,
 }
 
 /// What a command takes: its positionals, from the fewest to the most, and the options that it
@@ -47,12 +48,23 @@ const WRITE_SLOT: CommandRow = CommandRow {
     allowed: NO_EXTRAS,
 };
 
+const INFO: CommandRow = CommandRow {
+    kind: CommandKind::Info,
+    fewest: 1,
+    most: 1,
+    allowed: ExtraNames {
+        output_format: true,
+        ..NO_EXTRAS
+    },
+};
+
 // The table of the commands, by their names.
 fn command_row(name: &str) -> Option<CommandRow>
     ensures { result ≡ command_row name.now }
 {
     match name {
         "write-slot" => Some(WRITE_SLOT),
+        "info" => Some(INFO),
         _ => None,
     }
 }
@@ -66,12 +78,41 @@ fn write_slot_command(first: Option<Text>, second: Option<Text>) -> Option<Comma
     Some(Command::WriteSlot { slot, image })
 }
 
-// The command of this kind with its positionals.
-fn build(kind: CommandKind, first: Option<Text>, second: Option<Text>) -> Option<Command>
-    ensures { result ≡ build kind first second }
+// The form that the value of `--output-format` names; without one it is readable.
+fn form_of(format: &Option<Text>) -> Option<Form>
+    ensures { result ≡ form_of format.now }
+{
+    match format {
+        None => Some(Form::Readable),
+        Some(name) => match name.as_str() {
+            "readable" => Some(Form::Readable),
+            "shell" => Some(Form::Shell),
+            _ => None,
+        },
+    }
+}
+
+// `info BUNDLE`, in the form of `--output-format`.
+fn info_command(first: Option<Text>, format: &Option<Text>) -> Option<Command>
+    ensures { result ≡ info_command first format.now }
+{
+    let bundle = first?;
+    let form = form_of(format)?;
+    Some(Command::Info { bundle, form })
+}
+
+// The command of this kind with its positionals and the value of `--output-format`.
+fn build(
+    kind: CommandKind,
+    first: Option<Text>,
+    second: Option<Text>,
+    format: &Option<Text>,
+) -> Option<Command>
+    ensures { result ≡ build kind first second format.now }
 {
     match kind {
         CommandKind::WriteSlot => write_slot_command(first, second),
+        CommandKind::Info => info_command(first, format),
     }
 }
 
@@ -122,9 +163,15 @@ fn command_in(line: CommandLine) -> Option<Run>
     let CommandLine {
         positionals,
         place,
+        extras,
         ..
     } = line;
-    let command = build(row.kind, positionals.first, positionals.second)?;
+    let command = build(
+        row.kind,
+        positionals.first,
+        positionals.second,
+        &extras.output_format,
+    )?;
     Some(Run { place, command })
 }
 

@@ -4,7 +4,7 @@ use Rattle.rauc_cli.proofs.run.rauc.Goals as goal
 
 pub returns-in-Ok-clause-reports : goal.returns-in-Ok-clause-reports
 returns-in-Ok-clause-reports g c =
-    reports_whole _ c.args.words.now _ _ _ _ c.in-Ok.report _ c.in-Ok.ensures.ended c.in-Ok.ensures.texts (rw (c.as_bytes.ensures, c.as_bytes-in-Ok.ensures) at c.tell-told.ensures)
+    reports_whole _ c.args.words.now _ _ _ _ c.in-Ok.report _ c.in-Ok.ensures.ended c.in-Ok.ensures.texts (rw (c.as_slice.ensures, c.as_bytes.ensures) at c.tell-told.ensures)
 
 pub returns-in-Ok-clause-carries_out : goal.returns-in-Ok-clause-carries_out
 returns-in-Ok-clause-carries_out g c = carries_whole _ c.args.words.now _ _ c.in-Ok.report c.in-Ok.ensures.ended

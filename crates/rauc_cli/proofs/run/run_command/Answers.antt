@@ -1,0 +1,4 @@
+use Rattle.rauc_cli.proofs.run.run_command.Goals as goal
+
+pub returns-in-Info-clause-ended : goal.returns-in-Info-clause-ended
+returns-in-Info-clause-ended g c = rw c.in-Info.is (rw c.as_str-in-Info.ensures at c.run_info.ensures.ended)
