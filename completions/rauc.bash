@@ -23,9 +23,15 @@ _rauc_files() {
   mapfile -t COMPREPLY < <(compgen -f -- "$word")
 }
 
+# Bundles, and the folders that may have some.
+_rauc_bundles() {
+  compopt -o filenames 2> /dev/null
+  mapfile -t COMPREPLY < <(compgen -f -X '!*.raucb' -- "$word"; compgen -d -- "$word")
+}
+
 _rauc() {
   local word=${COMP_WORDS[COMP_CWORD]} conf=/etc/rauc/system.conf
-  local given i wants='' options=yes positionals=() names
+  local given i wants='' options=yes positionals=() command names
   COMPREPLY=()
   for ((i = 1; i < COMP_CWORD; i++)); do
     given=${COMP_WORDS[i]}
@@ -41,6 +47,7 @@ _rauc() {
         --) options='' ;;
         -c | --conf) wants=conf ;;
         --override-boot-slot) wants=booted ;;
+        --output-format) wants=format ;;
         --conf=*) conf=${given#--conf=} ;;
         -c*) conf=${given#-c} conf=${conf#=} ;;
         -?*) ;;
@@ -49,21 +56,27 @@ _rauc() {
     fi
   done
   [ -n "$wants" ] && [ "$word" = = ] && word=''
+  command=${positionals[0]-}
 
   if [ "$wants" = conf ]; then
     _rauc_files
   elif [ "$wants" = booted ]; then
     mapfile -t names < <(_rauc_bootnames "$conf" && _rauc_slots "$conf")
     _rauc_offer "${names[@]}"
+  elif [ "$wants" = format ]; then
+    [ "$command" = info ] && _rauc_offer readable shell
   elif [ -n "$options" ] && [[ $word == -* ]]; then
     _rauc_offer -c --conf --override-boot-slot -h --help
+    [ "$command" = info ] && _rauc_offer --output-format
   elif [ ${#positionals[@]} = 0 ]; then
-    _rauc_offer write-slot
-  elif [ "${positionals[0]}" = write-slot ] && [ ${#positionals[@]} = 1 ]; then
+    _rauc_offer write-slot info
+  elif [ "$command" = write-slot ] && [ ${#positionals[@]} = 1 ]; then
     mapfile -t names < <(_rauc_slots "$conf")
     _rauc_offer "${names[@]}"
-  elif [ "${positionals[0]}" = write-slot ] && [ ${#positionals[@]} = 2 ]; then
+  elif [ "$command" = write-slot ] && [ ${#positionals[@]} = 2 ]; then
     _rauc_files
+  elif [ "$command" = info ] && [ ${#positionals[@]} = 1 ]; then
+    _rauc_bundles
   fi
 }
 

@@ -28,6 +28,11 @@ cp c other.conf
 printf '[slot.data.0]\nbootname=$(touch/run)\n' >> other.conf
 : > system.img
 : > 'a name with blanks.img'
+: > new.raucb
+: > 'one with blanks.raucb'
+mkdir bundles
+: > bundles/old.raucb
+: > bundles/old.img
 
 # offers OFFERED WORDS..: where the last of the words is at hand, exactly these lines are offered.
 offers() {
@@ -45,8 +50,9 @@ offers() {
   fi
 }
 
-offers write-slot ''
+offers $'write-slot\ninfo' ''
 offers write-slot wri
+offers info in
 offers '' install
 offers $'-c\n--conf\n--override-boot-slot\n-h\n--help' -
 offers $'--conf' --c
@@ -67,8 +73,25 @@ offers system.img -c c write-slot rootfs.1 sys
 offers 'a name with blanks.img' -c c write-slot rootfs.1 'a name'
 offers '' -c c write-slot rootfs.1 system.img ''
 offers '' -c nothing write-slot ''
+offers new.raucb info n
+offers 'one with blanks.raucb' -c c info one
+offers bundles info b
+offers bundles/old.raucb info bundles/
+offers '' info sys
+offers '' info new.raucb ''
+offers $'-c\n--conf\n--override-boot-slot\n-h\n--help\n--output-format' info -
+offers --output-format info new.raucb --ou
+offers $'readable\nshell' info new.raucb --output-format =
+offers shell info --output-format = s
+offers readable info --output-format r
+offers new.raucb info --output-format = shell n
+offers new.raucb --output-format shell info n
+offers '' write-slot --ou
+offers '' write-slot --output-format = ''
+offers '' --output-format = ''
 offers '' -- -
-offers write-slot -- ''
+offers $'write-slot\ninfo' -- ''
+offers new.raucb -- info n
 if [ "$(complete -p rauc)" = 'complete -F _rauc rauc' ]; then
   passed=$((passed + 1))
 else
