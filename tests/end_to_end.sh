@@ -6,68 +6,16 @@
 set -u
 check=end_to_end
 . "$(dirname "$0")/lib/program.sh"
-scratch=$(mktemp -d "$PWD/build/end_to_end.XXXXXX")
-trap 'rm -rf "$scratch"' EXIT
-cd "$scratch" || exit 2
-passed=0
-failed=0
-
-pass() { passed=$((passed + 1)); }
-
-fail() {
-  failed=$((failed + 1))
-  printf 'failed: %s\n' "$1"
-}
-
-# The words that run the program as another user, if any.
-as=''
-
-# expect STATUS LINE WORDS..: the run ends with the status, and LINE is all that it prints: on standard
-# output where the status is 0, else on standard error.
-expect() {
-  status=$1
-  line=$2
-  shift 2
-  $as "$program" "$@" > said_out 2> said_err
-  code=$?
-  if [ "$status" = 0 ]; then
-    said=$(cat said_out) && quiet=said_err
-  else
-    said=$(cat said_err) && quiet=said_out
-  fi
-  if [ "$code" = "$status" ] && [ "$said" = "$line" ] && [ ! -s "$quiet" ]; then
-    pass
-  else
-    fail "rauc $*
-  wanted $status: $line
-  got    $code: $(cat said_out said_err)"
-  fi
-}
+. tests/lib/real_files.sh
 
 # writes STATUS LINE SLOT IMAGE: the same of a write, where the first slot counts as booted.
 writes() {
   expect "$1" "$2" write-slot --override-boot-slot=A -c c "$3" "$4"
 }
 
-digest() { sha256sum < "$1" | cut -c1-64; }
-
 # written SLOT IMAGE: the line of a write that was done.
 written() {
   printf 'slot %s written: %s bytes, sha256 %s' "$1" "$(($(wc -c < "$2")))" "$(digest "$2")"
-}
-
-# same FILE FILE [COUNT]: the first COUNT bytes are the same.
-same() {
-  if [ $# = 3 ]; then
-    head -c "$3" "$1" > first
-    head -c "$3" "$2" > second
-    set -- first second
-  fi
-  if [ "$(digest "$1")" = "$(digest "$2")" ]; then
-    pass
-  else
-    fail "$1 and $2 differ"
-  fi
 }
 
 # at_most LIMIT COUNT WHAT: a count was measured and is no more than the limit.
@@ -112,39 +60,6 @@ others() {
   shift
   printf '%s' "$(($("$@" | tr -d "$byte" | wc -c)))"
 }
-
-# conf DEVICE: a configuration with the slots rootfs.0 on the file a, rootfs.1 on this device, and
-# data.0 on the file d.
-conf() {
-  cat << CONF
-[system]
-compatible=Test
-bootloader=grub
-
-[slot.rootfs.0]
-device=$scratch/a
-bootname=A
-
-[slot.rootfs.1]
-device=$1
-bootname=B
-
-[slot.data.0]
-device=$scratch/d
-CONF
-}
-
-# slots SIZE: three devices of so many bytes, and the configuration over them.
-slots() {
-  head -c "$1" /dev/zero | tr '\0' 'a' > a
-  head -c "$1" /dev/zero | tr '\0' 'b' > b
-  head -c "$1" /dev/zero | tr '\0' 'd' > d
-  cp a running
-  cp b before
-  conf "$scratch/b" > c
-}
-
-usage='rauc: bad usage, see rauc --help'
 
 # ---- images that fit, and one that does not
 slots 4096
