@@ -1,0 +1,14 @@
+//! What the variables of a boot loader mean: which names it may boot, and which one it boots next.
+#![tactic(auto)]
+
+mod barebox;
+mod custom;
+mod efi;
+mod grub;
+mod named;
+mod order;
+mod state;
+mod uboot;
+mod variable;
+
+pub use state::{good_of, primary_of};
