@@ -13,9 +13,11 @@ priority_name name = codes "bootstate." ++ (name ++ codes ".priority")
 abbrev pub attempts_name : List ℕ → List ℕ
 attempts_name name = codes "bootstate." ++ (name ++ codes ".remaining_attempts")
 
+-- a priority that is missing or no number counts as 0
 abbrev pub priority_of : Variables → List ℕ → ℕ
 priority_of vars name = count_of (value vars (priority_name name))
 
+-- and so do attempts
 abbrev pub attempts_of : Variables → List ℕ → ℕ
 attempts_of vars name = count_of (value vars (attempts_name name))
 

@@ -14,7 +14,7 @@ state_name name = codes "state." ++ name
 abbrev pub primary_name : List ℕ
 primary_name = codes "primary"
 
--- the state of the name is bad
+-- a name whose state is bad stays out, whatever is done to the others
 abbrev pub is_down : Variables → List ℕ → Bool
 is_down vars name = option_map_or (λ state. bytes_eq state (codes "bad")) (value vars (state_name name)) false
 
@@ -30,9 +30,11 @@ primary vars names = option_and_then (λ name. if has_word names name && is_good
 abbrev pub with_state : List ℕ → List ℕ → Variables → Variables
 with_state state name vars = fin.insert vars (state_name name) state
 
+-- the state of the name is bad
 abbrev pub marked_bad : List ℕ → Variables → Variables
 marked_bad name vars = with_state (codes "bad") name vars
 
+-- the state of the name is good
 abbrev pub marked_good : List ℕ → Variables → Variables
 marked_good name vars = with_state (codes "good") name vars
 

@@ -8,12 +8,12 @@ use Rattle.boot_model.specs.Vars.{Variables}
 use Rattle.boot_state.specs.Orders.{has_word, is_comma, joined, put, value, words_between}
 
 -- a hexadecimal digit in upper case
-abbrev pub is_digit : ℕ → Bool
-is_digit byte = (nat_le 48 byte && nat_le byte 57) || (nat_le 65 byte && nat_le byte 70)
+abbrev pub is_hex_digit : ℕ → Bool
+is_hex_digit byte = (nat_le 48 byte && nat_le byte 57) || (nat_le 65 byte && nat_le byte 70)
 
 -- the number of an entry: four of them
 abbrev pub is_number : List ℕ → Bool
-is_number text = (length text == 4) && list_all is_digit text
+is_number text = (length text == 4) && list_all is_hex_digit text
 
 -- the variable of an entry, whose value is the label
 abbrev pub entry_name : List ℕ → List ℕ
@@ -100,13 +100,15 @@ primary_with use_next [] name vars = None
 primary_with use_next (first ∷ more) name vars =
     Some (if use_next then fin.insert vars next_name first else with_order (first ∷ rest_of vars name) (fin.remove vars next_name))
 
--- the marks; none where the name has no number
+-- the name has no number in the order or for the next boot; none where it has no number at all
 abbrev pub marked_bad : List ℕ → Variables → Option Variables
 marked_bad name vars = bad_with (numbers_of vars name) name vars
 
+-- the first number of the name leads the order
 abbrev pub marked_good : List ℕ → Variables → Option Variables
 marked_good name vars = good_with (numbers_of vars name) name vars
 
+-- the first number of the name is the next boot's, or leads the order
 abbrev pub made_primary : Bool → List ℕ → Variables → Option Variables
 made_primary use_next name vars = primary_with use_next (numbers_of vars name) name vars
 

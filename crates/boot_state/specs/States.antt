@@ -1,5 +1,5 @@
 -- Which names are good and which one is primary, by the variables of each kind of boot loader, and the marks.
-use Rattle.std.specs.Prelude.{ℕ, Bool, true, List, position, Option, Some, None, option_and_then}
+use Rattle.std.specs.Prelude.{◌≡◌, ℕ, Bool, true, false, ◌&&◌, nat_le, List, position, Option, Some, None, option_and_then}
 use Rattle.std.specs.Str.{bytes_eq}
 use Rattle.boot_model.specs.Vars.{Variables}
 use Rattle.boot_model.specs.declared.boot_kind.BootKind.{BootKind}
@@ -67,3 +67,19 @@ is_down (boot.Barebox state attempts primary_attempts) vars name = barebox.is_do
 is_down (boot.Efi use_next) vars name = efi.is_down vars name
 is_down (boot.Custom program) vars name = custom.is_down vars name
 is_down boot.Noop vars name = true
+
+-- what a mark of another name keeps of a name: down stays down, and good stays good
+pub record KeepsName (kind : BootKind) (names : List (List ℕ)) (name : List ℕ) (before after : Variables) : Type 0 where
+  pub stays_down : is_down kind before name ≡ true → is_down kind after name ≡ true
+  pub stays_good : good kind before names name ≡ true → good kind after names name ≡ true
+
+-- a name that is made primary has attempts, where they are counted: 1 to 9
+abbrev pub gives_attempts : BootKind → Bool
+gives_attempts (boot.Uboot attempts primary_attempts) = nat_le 1 primary_attempts && nat_le primary_attempts 9
+gives_attempts (boot.Barebox state attempts primary_attempts) = nat_le 1 primary_attempts && nat_le primary_attempts 9
+gives_attempts _ = true
+
+-- a name that is made primary is booted next by EFI, and its order stays
+abbrev pub uses_next : BootKind → Bool
+uses_next (boot.Efi use_next) = use_next
+uses_next _ = false

@@ -9,23 +9,23 @@ use crate::variable::value_of;
 use boot_model::Vars;
 use updater_text::Text;
 
-fn is_digit(byte: u8) -> bool
-    ensures { result ≡ spec.is_digit byte }
+fn is_hex_digit(byte: u8) -> bool
+    ensures { result ≡ spec.is_hex_digit byte }
 {
     matches!(byte, b'0'..=b'9' | b'A'..=b'F')
 }
 
-fn are_digits(text: &[u8]) -> bool
-    ensures { result ≡ list_all spec.is_digit text.now }
+fn are_hex_digits(text: &[u8]) -> bool
+    ensures { result ≡ list_all spec.is_hex_digit text.now }
 {
-    text.iter().all(|byte| is_digit(*byte))
+    text.iter().all(|byte| is_hex_digit(*byte))
 }
 
 // Whether a text is the number of an entry: four hexadecimal digits in upper case.
 fn is_number(text: &[u8]) -> bool
     ensures { result ≡ spec.is_number text.now }
 {
-    text.len() == 4 && are_digits(text)
+    text.len() == 4 && are_hex_digits(text)
 }
 
 // The label of the entry with this number.

@@ -1,7 +1,7 @@
 ghost use Rattle.std.specs.Prelude.{◌≡◌};
 ghost use Rattle.boot_state.specs.Orders as spec;
 
-/// A byte between the words of an order.
+/// Whether a byte stands between the words of an order: a space or a tab.
 pub fn is_blank(byte: u8) -> bool
     ensures { result ≡ spec.is_blank byte }
 {

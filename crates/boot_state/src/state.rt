@@ -28,7 +28,8 @@ fn is_good(kind: &BootKind, vars: &Vars, names: &[Text], name: &[u8]) -> bool
 /// 0, and the name is a word of `BOOT_ORDER`, whose words stand between blanks. barebox:
 /// `bootstate.NAME.priority` and `bootstate.NAME.remaining_attempts` are above 0. EFI: `BootOrder`
 /// has a number whose entry has the name as its label. A program of the system's own: `state.NAME`
-/// is not `bad`. Without a boot loader each name is good. It takes no memory.
+/// is not `bad`. Without a boot loader each name is good. None of them looks at the other `names`. It
+/// takes no memory.
 pub fn good_of(kind: &BootKind, vars: &Vars, names: &[Text], name: &str) -> bool
     ensures { result ≡ good kind.now vars.now names.now name.now }
 {

@@ -33,7 +33,8 @@ pub fn value_of<'a>(vars: &'a Vars, front: &[u8], name: &[u8], back: &[u8]) -> O
     None
 }
 
-/// The number that its value spells; 0 where there is none.
+/// The number that the value of the variable with this name spells; 0 where it is missing, or spells
+/// none. It takes no memory.
 pub fn count_in(vars: &Vars, front: &[u8], name: &[u8], back: &[u8]) -> u64
     ensures { result ≡ count_of (value vars.now (front.now ++ (name.now ++ back.now))) }
 {

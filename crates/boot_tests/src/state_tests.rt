@@ -312,50 +312,50 @@ fn first_wrong(alloc: Global, kind: &BootKind, rows: &[Row]) -> Option<usize> {
         .position(|row| !matches!(holds(alloc, kind, row), Ok(true)))
 }
 
-#[test]
-fn tells_what_grub_boots(rt: HostRuntime) {
-    let alloc = rt.alloc();
-    let kind = BootKind::Grub {
-        file: Text::empty(alloc),
-    };
-    assert_eq!(rt; first_wrong(alloc, &kind, &GRUB), None);
+// The words of the kinds of boot loaders.
+static WORDS: [&str; 6] = ["grub", "uboot", "barebox", "efi", "custom", "noop"];
+
+fn rows_of(word: &str) -> &'static [Row] {
+    match word {
+        "grub" => &GRUB,
+        "uboot" => &UBOOT,
+        "barebox" => &BAREBOX,
+        "efi" => &EFI,
+        "custom" => &CUSTOM,
+        _ => &NOOP,
+    }
+}
+
+fn kind_of(alloc: Global, word: &str) -> BootKind {
+    match word {
+        "grub" => BootKind::Grub {
+            file: Text::empty(alloc),
+        },
+        "uboot" => BootKind::Uboot {
+            attempts: 3,
+            primary_attempts: 3,
+        },
+        "barebox" => BootKind::Barebox {
+            state: None,
+            attempts: 3,
+            primary_attempts: 3,
+        },
+        "efi" => BootKind::Efi { use_next: true },
+        "custom" => BootKind::Custom {
+            program: Text::empty(alloc),
+        },
+        _ => BootKind::Noop,
+    }
+}
+
+// The first row of a kind that does not hold.
+fn wrong_row(alloc: Global, word: &str) -> Option<usize> {
+    first_wrong(alloc, &kind_of(alloc, word), rows_of(word))
 }
 
 #[test]
-fn tells_what_uboot_boots(rt: HostRuntime) {
-    let kind = BootKind::Uboot {
-        attempts: 3,
-        primary_attempts: 3,
-    };
-    assert_eq!(rt; first_wrong(rt.alloc(), &kind, &UBOOT), None);
-}
-
-#[test]
-fn tells_what_barebox_boots(rt: HostRuntime) {
-    let kind = BootKind::Barebox {
-        state: None,
-        attempts: 3,
-        primary_attempts: 3,
-    };
-    assert_eq!(rt; first_wrong(rt.alloc(), &kind, &BAREBOX), None);
-}
-
-#[test]
-fn tells_what_efi_boots(rt: HostRuntime) {
-    let kind = BootKind::Efi { use_next: true };
-    assert_eq!(rt; first_wrong(rt.alloc(), &kind, &EFI), None);
-}
-
-#[test]
-fn tells_what_a_program_boots(rt: HostRuntime) {
-    let alloc = rt.alloc();
-    let kind = BootKind::Custom {
-        program: Text::empty(alloc),
-    };
-    assert_eq!(rt; first_wrong(alloc, &kind, &CUSTOM), None);
-}
-
-#[test]
-fn tells_that_nothing_is_booted(rt: HostRuntime) {
-    assert_eq!(rt; first_wrong(rt.alloc(), &BootKind::Noop, &NOOP), None);
+fn tells_what_is_booted(rt: HostRuntime) {
+    for word in WORDS {
+        assert_eq!(rt; wrong_row(rt.alloc(), word), None, "{word}");
+    }
 }
