@@ -1,2 +1,5 @@
 pub mod Entries
 pub mod Operands
+pub mod Spellings
+pub mod Readings
+pub mod Changes
