@@ -7,7 +7,7 @@ use Rattle.boot_model.specs.Vars.{Variables}
 use Rattle.boot_programs.specs.Ends.{refused, changed, changed_if}
 use Rattle.boot_programs.specs.Settings.{spelled, with_settings}
 use Rattle.boot_programs.specs.Barebox.{operands}
-use Rattle.boot_programs.specs.Custom.{state_name, with_primary}
+use Rattle.boot_state.specs.Custom.{made_primary, state_name}
 use Rattle.boot_programs.specs.Programs.{program}
 use Rattle.boot_programs.proofs.Spellings.{bytes_eq_same, Pairs, AreNamed, has_sign, spellings, with_pairs, with_settings-spellings}
 
@@ -38,7 +38,7 @@ pub program-set_state : (path name state : List ℕ) (vars : Variables) → prog
 program-set_state path name state vars = ap (λ (b : Bool). cond b (changed (insert vars (state_name name) state)) (refused vars)) (bytes_eq_same path)
 
 pub program-set_primary : (path name : List ℕ) (vars : Variables) → program (Custom path) (path ∷ codes "set-primary" ∷ name ∷ []) vars ≡ changed (insert (insert vars (codes "primary") name) (state_name name) (codes "good"))
-program-set_primary path name vars = ap (λ (b : Bool). cond b (changed (with_primary vars name)) (refused vars)) (bytes_eq_same path)
+program-set_primary path name vars = ap (λ (b : Bool). cond b (changed (made_primary name vars)) (refused vars)) (bytes_eq_same path)
 
 -- EFI
 module _ (use_next : Bool) (text : List ℕ) (vars : Variables) where

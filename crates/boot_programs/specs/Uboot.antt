@@ -1,8 +1,9 @@
 -- U-Boot: `fw_printenv` and `fw_setenv`, by the words after their names.
 use Rattle.std.specs.Prelude.{ℕ, List, [], ◌∷◌}
 use Rattle.std.specs.Option.{option_map}
-use Rattle.std.specs.FinMap.{get, insert, remove}
+use Rattle.std.specs.FinMap.{get}
 use Rattle.boot_model.specs.Vars.{Variables}
+use Rattle.boot_state.specs.Orders.{put}
 use Rattle.boot_programs.specs.declared.program_end.ProgramEnd.{ProgramEnd}
 use Rattle.boot_programs.specs.Ends.{refused, printed_if, changed}
 use Rattle.boot_programs.specs.Settings.{setting_line}
@@ -16,12 +17,7 @@ abbrev pub fw_printenv : List (List ℕ) → Variables → ProgramEnd
 fw_printenv (name ∷ []) vars = variable_end name vars
 fw_printenv _ vars = refused vars
 
--- the variables with this one set; an empty value takes it away
-abbrev pub with_value : Variables → List ℕ → List ℕ → Variables
-with_value vars name [] = remove vars name
-with_value vars name (b ∷ bs) = insert vars name (b ∷ bs)
-
--- `fw_setenv NAME VALUE` sets a variable
+-- `fw_setenv NAME VALUE` sets a variable; an empty value takes it away
 abbrev pub fw_setenv : List (List ℕ) → Variables → ProgramEnd
-fw_setenv (name ∷ text ∷ []) vars = changed (with_value vars name text)
+fw_setenv (name ∷ text ∷ []) vars = changed (put vars name text)
 fw_setenv _ vars = refused vars

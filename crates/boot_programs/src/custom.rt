@@ -1,7 +1,7 @@
 ghost use Rattle.std.specs.Prelude.{◌≡◌, ◌++◌, ◌∷◌, [], IfOk};
 ghost use Rattle.boot_programs.specs.Custom as spec;
 ghost use Rattle.boot_programs.specs.Ends as ends;
-ghost use Rattle.std.specs.FinMap.{insert};
+ghost use Rattle.boot_state.specs.Custom.{is_down, made_primary, state_name, with_state};
 
 use crate::ProgramEnd;
 use boot_model::Vars;
@@ -69,10 +69,13 @@ fn get_primary(alloc: Global, vars: &Vars) -> Result<ProgramEnd, NoMemory>
 }
 
 fn is_bad(alloc: Global, name: &str, vars: &Vars) -> Result<bool, NoMemory>
-    ensures { IfOk result (λ bad. bad ≡ spec.is_bad vars.now name.now) }
+    ensures { IfOk result (λ bad. bad ≡ is_down vars.now name.now) }
 {
-    let state = state_name(alloc, name)?;
-    Ok(vars.get(state.as_str()).unwrap_or("") == "bad")
+    let variable = state_name(alloc, name)?;
+    match vars.get(variable.as_str()) {
+        Some(state) => Ok(state == "bad"),
+        None => Ok(false),
+    }
 }
 
 fn get_state(alloc: Global, name: &str, vars: &Vars) -> Result<ProgramEnd, NoMemory>
@@ -86,14 +89,14 @@ fn get_state(alloc: Global, name: &str, vars: &Vars) -> Result<ProgramEnd, NoMem
 }
 
 fn set_state(alloc: Global, name: &str, state: &str, vars: &Vars) -> Result<ProgramEnd, NoMemory>
-    ensures { IfOk result (λ end. end ≡ ends.changed (insert vars.now (spec.state_name name.now) state.now)) }
+    ensures { IfOk result (λ end. end ≡ ends.changed (with_state state.now name.now vars.now)) }
 {
     let variable = state_name(alloc, name)?;
     ProgramEnd::set(alloc, variable.as_str(), state, vars)
 }
 
 fn set_primary(alloc: Global, name: &str, vars: &Vars) -> Result<ProgramEnd, NoMemory>
-    ensures { IfOk result (λ end. end ≡ ends.changed (spec.with_primary vars.now name.now)) }
+    ensures { IfOk result (λ end. end ≡ ends.changed (made_primary name.now vars.now)) }
 {
     let variable = state_name(alloc, name)?;
     let mut after = vars.copy()?;
@@ -104,7 +107,7 @@ fn set_primary(alloc: Global, name: &str, vars: &Vars) -> Result<ProgramEnd, NoM
 
 // The name of the variable with the state of a name.
 fn state_name(alloc: Global, name: &str) -> Result<Text, NoMemory>
-    ensures { IfOk result (λ text. text ≡ spec.state_name name.now) }
+    ensures { IfOk result (λ text. text ≡ state_name name.now) }
 {
     let mut variable = String::from_str(alloc, "state.")?;
     variable.push_str(name)?;

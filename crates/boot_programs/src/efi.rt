@@ -1,5 +1,4 @@
 ghost use Rattle.std.specs.Prelude.{◌≡◌, ◌++◌, IfOk, OnOk};
-ghost use Rattle.std.specs.List.{list_all};
 ghost use Rattle.std.specs.FinMap.{entries, get};
 ghost use Rattle.boot_programs.specs.Ends.{printed};
 ghost use Rattle.boot_programs.specs.Efi as spec;
@@ -7,6 +6,7 @@ ghost use Rattle.boot_programs.specs.Efi as spec;
 use crate::ProgramEnd;
 use crate::entry::entry_at;
 use boot_model::Vars;
+use boot_state::is_entry_number;
 use std::alloc::{AllocError, Global};
 use updater_text::{NoMemory, Text};
 
@@ -94,22 +94,10 @@ fn write_entry(out: &mut Vec<u8>, name: &str, label: &str) -> Result<(), AllocEr
     Ok(())
 }
 
-// Whether a variable is an entry: `Boot` and four hexadecimal digits in upper case.
+// Whether a variable is an entry: `Boot` and its number.
 fn is_entry(name: &str) -> bool
     ensures { result ≡ spec.is_entry name.now }
 {
     let bytes = name.as_bytes();
-    bytes.len() == 8 && bytes.starts_with(b"Boot") && are_digits(&bytes[4..])
-}
-
-fn are_digits(bytes: &[u8]) -> bool
-    ensures { result ≡ list_all spec.is_digit bytes.now }
-{
-    bytes.iter().all(|byte| is_digit(*byte))
-}
-
-fn is_digit(byte: u8) -> bool
-    ensures { result ≡ spec.is_digit byte }
-{
-    matches!(byte, b'0'..=b'9' | b'A'..=b'F')
+    bytes.len() == 8 && bytes.starts_with(b"Boot") && is_entry_number(&bytes[4..])
 }

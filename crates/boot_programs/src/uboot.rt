@@ -1,5 +1,6 @@
 ghost use Rattle.std.specs.Prelude.{◌≡◌, IfOk};
 ghost use Rattle.boot_programs.specs.Ends.{changed};
+ghost use Rattle.boot_state.specs.Orders.{put};
 ghost use Rattle.boot_programs.specs.Uboot as spec;
 
 use crate::ProgramEnd;
@@ -41,7 +42,7 @@ pub fn fw_setenv(alloc: Global, words: &[Text], vars: &Vars) -> Result<ProgramEn
 }
 
 fn set_variable(alloc: Global, name: &str, value: &str, vars: &Vars) -> Result<ProgramEnd, NoMemory>
-    ensures { IfOk result (λ end. end ≡ changed (spec.with_value vars.now name.now value.now)) }
+    ensures { IfOk result (λ end. end ≡ changed (put vars.now name.now value.now)) }
 {
     if value.is_empty() {
         ProgramEnd::removed(alloc, name, vars)

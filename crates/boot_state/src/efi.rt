@@ -21,8 +21,8 @@ fn are_hex_digits(text: &[u8]) -> bool
     text.iter().all(|byte| is_hex_digit(*byte))
 }
 
-// Whether a text is the number of an entry: four hexadecimal digits in upper case.
-fn is_number(text: &[u8]) -> bool
+/// Whether a text is the number of an entry of EFI: four hexadecimal digits in upper case.
+pub fn is_entry_number(text: &[u8]) -> bool
     ensures { result ≡ spec.is_number text.now }
 {
     text.len() == 4 && are_hex_digits(text)
@@ -32,7 +32,7 @@ fn is_number(text: &[u8]) -> bool
 fn label_of<'a>(vars: &'a Vars, number: &[u8]) -> Option<&'a [u8]>
     ensures { option_copied result ≡ spec.label_of vars.entry.now number.now }
 {
-    if !is_number(number) {
+    if !is_entry_number(number) {
         return None;
     }
     let label = value_of(vars, b"Boot", number, b"")?;

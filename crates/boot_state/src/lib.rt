@@ -11,4 +11,5 @@ mod state;
 mod uboot;
 mod variable;
 
+pub use efi::is_entry_number;
 pub use state::{good_of, primary_of};

@@ -430,10 +430,12 @@ fn vars_of(alloc: Global, settings: &[(&str, &str)]) -> Result<Vars, NoMemory> {
 
 // Whether these are the variables.
 fn are_vars(vars: &Vars, settings: &[(&str, &str)]) -> bool {
+    for (name, value) in settings {
+        if vars.get(name).is_none_or(|found| found != *value) {
+            return false;
+        }
+    }
     vars.len() == settings.len()
-        && settings
-            .iter()
-            .all(|(name, value)| vars.get(name) == Some(*value))
 }
 
 fn end_of(
@@ -462,28 +464,30 @@ fn ends(
     }
 }
 
-// The first row, counted from 0, that goes another way.
-fn wrong_print(alloc: Global, kind: &BootKind, rows: &[Print]) -> Option<usize> {
-    rows.iter().position(|(vars, argv, out)| !ends(alloc, kind, (vars, argv), (0, out, vars)))
-}
-
-fn wrong_change(
+// The first row of each table, counted from 0, that does not hold. The changes and the refusals begin
+// with these variables.
+fn wrong_rows(
     alloc: Global,
     kind: &BootKind,
     before: &[(&str, &str)],
-    rows: &[Change],
-) -> Option<usize> {
-    rows.iter().position(|(argv, after)| !ends(alloc, kind, (before, argv), (0, "", after)))
-}
-
-fn wrong_refusal(
-    alloc: Global,
-    kind: &BootKind,
-    before: &[(&str, &str)],
-    rows: &[Words],
-) -> Option<usize> {
-    rows.iter()
-        .position(|argv| !ends(alloc, kind, (before, argv), (1, "", before)))
+    (prints, changes, refusals): (&[Print], &[Change], &[Words]),
+) -> [Option<usize>; 3] {
+    let print = prints.iter().position(|(vars, argv, out)| !ends(
+        alloc,
+        kind,
+        (vars, argv),
+        (0, out, vars),
+    ));
+    let change = changes.iter().position(|(argv, after)| !ends(
+        alloc,
+        kind,
+        (before, argv),
+        (0, "", after),
+    ));
+    let refusal = refusals
+        .iter()
+        .position(|argv| !ends(alloc, kind, (before, argv), (1, "", before)));
+    [print, change, refusal]
 }
 
 #[test]
@@ -491,10 +495,12 @@ fn grub(rt: HostRuntime) -> Result<(), Fail> {
     let alloc = rt.alloc();
     let file = Text::new(alloc, "/boot/grubenv")?;
     let kind = BootKind::Grub { file };
-    let print = wrong_print(alloc, &kind, &GRUB_PRINTS);
-    let change = wrong_change(alloc, &kind, &GRUB, &GRUB_CHANGES);
-    let refusal = wrong_refusal(alloc, &kind, &GRUB, &GRUB_REFUSED);
-    assert_eq!(rt; [print, change, refusal], [None; 3]);
+    let rows = (
+        GRUB_PRINTS.as_slice(),
+        GRUB_CHANGES.as_slice(),
+        GRUB_REFUSED.as_slice(),
+    );
+    assert_eq!(rt; wrong_rows(alloc, &kind, &GRUB, rows), [None; 3]);
     Ok(())
 }
 
@@ -505,10 +511,12 @@ fn uboot(rt: HostRuntime) {
         attempts: 3,
         primary_attempts: 3,
     };
-    let print = wrong_print(alloc, &kind, &UBOOT_PRINTS);
-    let change = wrong_change(alloc, &kind, &UBOOT, &UBOOT_CHANGES);
-    let refusal = wrong_refusal(alloc, &kind, &UBOOT, &UBOOT_REFUSED);
-    assert_eq!(rt; [print, change, refusal], [None; 3]);
+    let rows = (
+        UBOOT_PRINTS.as_slice(),
+        UBOOT_CHANGES.as_slice(),
+        UBOOT_REFUSED.as_slice(),
+    );
+    assert_eq!(rt; wrong_rows(alloc, &kind, &UBOOT, rows), [None; 3]);
 }
 
 #[test]
@@ -519,20 +527,24 @@ fn barebox(rt: HostRuntime) {
         attempts: 3,
         primary_attempts: 3,
     };
-    let print = wrong_print(alloc, &kind, &BAREBOX_PRINTS);
-    let change = wrong_change(alloc, &kind, &BAREBOX, &BAREBOX_CHANGES);
-    let refusal = wrong_refusal(alloc, &kind, &BAREBOX, &BAREBOX_REFUSED);
-    assert_eq!(rt; [print, change, refusal], [None; 3]);
+    let rows = (
+        BAREBOX_PRINTS.as_slice(),
+        BAREBOX_CHANGES.as_slice(),
+        BAREBOX_REFUSED.as_slice(),
+    );
+    assert_eq!(rt; wrong_rows(alloc, &kind, &BAREBOX, rows), [None; 3]);
 }
 
 #[test]
 fn efi(rt: HostRuntime) {
     let alloc = rt.alloc();
     let kind = BootKind::Efi { use_next: true };
-    let print = wrong_print(alloc, &kind, &EFI_PRINTS);
-    let change = wrong_change(alloc, &kind, &EFI, &EFI_CHANGES);
-    let refusal = wrong_refusal(alloc, &kind, &EFI, &EFI_REFUSED);
-    assert_eq!(rt; [print, change, refusal], [None; 3]);
+    let rows = (
+        EFI_PRINTS.as_slice(),
+        EFI_CHANGES.as_slice(),
+        EFI_REFUSED.as_slice(),
+    );
+    assert_eq!(rt; wrong_rows(alloc, &kind, &EFI, rows), [None; 3]);
 }
 
 #[test]
@@ -540,16 +552,21 @@ fn custom(rt: HostRuntime) -> Result<(), Fail> {
     let alloc = rt.alloc();
     let program = Text::new(alloc, "/sbin/backend")?;
     let kind = BootKind::Custom { program };
-    let print = wrong_print(alloc, &kind, &CUSTOM_PRINTS);
-    let change = wrong_change(alloc, &kind, &CUSTOM, &CUSTOM_CHANGES);
-    let refusal = wrong_refusal(alloc, &kind, &CUSTOM, &CUSTOM_REFUSED);
-    assert_eq!(rt; [print, change, refusal], [None; 3]);
+    let rows = (
+        CUSTOM_PRINTS.as_slice(),
+        CUSTOM_CHANGES.as_slice(),
+        CUSTOM_REFUSED.as_slice(),
+    );
+    assert_eq!(rt; wrong_rows(alloc, &kind, &CUSTOM, rows), [None; 3]);
     Ok(())
 }
 
 #[test]
 fn noop(rt: HostRuntime) {
     let alloc = rt.alloc();
-    let refusal = wrong_refusal(alloc, &BootKind::Noop, &CUSTOM, &NOOP_REFUSED);
-    assert_eq!(rt; refusal, None);
+    let rows = ([].as_slice(), [].as_slice(), NOOP_REFUSED.as_slice());
+    assert_eq!(rt;
+        wrong_rows(alloc, &BootKind::Noop, &CUSTOM, rows),
+        [None; 3]
+    );
 }
