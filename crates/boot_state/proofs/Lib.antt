@@ -2,6 +2,7 @@ pub mod BareboxMarks
 pub mod Counts
 pub mod CustomMarks
 pub mod EfiMarks
+pub mod EfiNumbers
 pub mod GrubMarks
 mod Lookups
 pub mod Marks

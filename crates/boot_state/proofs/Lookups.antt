@@ -52,3 +52,7 @@ absent vars name none =
 
 pub not_past : (words : List (List ℕ)) (at : ℕ) → None ≡ slice_get words at → at < length words → ⊥
 not_past words at none within = let there = slice_get-get_or words at [] within in cc
+
+-- a name that a variable has
+pub present : (vars : Variables) (name text : List ℕ) → value vars name ≡ Some text → has_word (keys vars) name ≡ true
+present vars name text there = (λ i. list_any (λ w. sym (tests_alike name w) i) (keys vars)) ∙ sym (contains_key-keys vars name) ∙ ap is_some there
