@@ -1,10 +1,10 @@
 //! What is booted and mounted, by the machine.
 #![tactic(auto)]
 
-mod boot_state;
 mod files;
 mod mount_state;
+mod running;
 
-pub use boot_state::{in_use, is_in_use, what_runs};
 pub use files::file_within;
 pub use mount_state::{is_mounted, what_is_mounted};
+pub use running::{in_use, is_in_use, what_runs};

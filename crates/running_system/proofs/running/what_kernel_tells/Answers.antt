@@ -2,7 +2,7 @@ use Rattle.std.proofs.Common.{◌≡◌, ◌∙◌, ap, codes, Option, Some, Non
 use Rattle.machine.specs.Past.{world_now}
 use Rattle.slot_graph.specs.Booted.{booted_of}
 use Rattle.running_system.specs.Running.{booted_by_text, file_within}
-use Rattle.running_system.proofs.boot_state.what_kernel_tells.Goals as goal
+use Rattle.running_system.proofs.running.what_kernel_tells.Goals as goal
 
 pub returns-in-Ok-Some-clause-answers : goal.returns-in-Ok-Some-clause-answers
 returns-in-Ok-Some-clause-answers g c = λ told.

@@ -1,7 +1,7 @@
 use Rattle.std.proofs.Common.{◌∙◌, ap}
 use Rattle.running_system.specs.Running.{is_in_use}
 use Rattle.running_system.proofs.StateLookups.{lies_told, state_found}
-use Rattle.running_system.proofs.boot_state.in_use.Goals as goal
+use Rattle.running_system.proofs.running.in_use.Goals as goal
 
 pub returns-in-Some-clause-value : goal.returns-in-Some-clause-value
 returns-in-Some-clause-value c =
