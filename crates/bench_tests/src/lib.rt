@@ -2,6 +2,8 @@
 #![tactic(auto)]
 
 #[cfg(test)]
+mod boot_tests;
+#[cfg(test)]
 mod call_tests;
 #[cfg(test)]
 mod child_tests;

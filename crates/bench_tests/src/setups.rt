@@ -142,11 +142,12 @@ fn push_numbers(numbers: &mut Items<u64>, more: &[u64]) -> Result<(), NoMemory> 
     Ok(())
 }
 
-fn empty_setup(alloc: Global, stop: Option<u64>) -> Setup {
+// The boot loader's program is the one at `MOUNT`.
+fn empty_setup(alloc: Global, program: Text, stop: Option<u64>) -> Setup {
     Setup {
         disks: Items::new(alloc),
         files: Items::new(alloc),
-        boot: BootKind::Noop,
+        boot: BootKind::Custom { program },
         vars: Vars::new(alloc),
         scripts: Items::new(alloc),
         fails: Items::new(alloc),
@@ -177,7 +178,10 @@ fn is_right_after_stop(m: Bench, alloc: Global, case: &Case) -> bool {
 }
 
 fn is_right(alloc: Global, case: &Case) -> bool {
-    let mut setup = empty_setup(alloc, case.stop);
+    let Ok(program) = Text::new(alloc, MOUNT) else {
+        return false;
+    };
+    let mut setup = empty_setup(alloc, program, case.stop);
     let filled = fill_setup(&mut setup, alloc, case);
     match Bench::new(alloc, setup) {
         Ok(mut m) => {

@@ -1,4 +1,4 @@
-use crate::setups::{DISK, FILE, SPARED, push_texts};
+use crate::setups::{DISK, FILE, MOUNT, SPARED, push_texts};
 use machine::{
     CallStop, Child, ChildClass, Ended, Exit, Machine, Named, ReadStop, RunStop, Spares, World,
     fill,
@@ -29,6 +29,10 @@ pub enum Step {
     // How a child ends, how many bytes are kept of what it puts out, and whether there was more, where
     // that does not fail.
     Run(&'static str, &'static [&'static str], Option<(Ended, usize, bool)>),
+    // How the boot program at `MOUNT` ends, and what it puts out, where that does not fail.
+    Boot(&'static [&'static str], Option<(Ended, &'static str)>),
+    // The value of a boot variable, if there is one.
+    Variable(&'static str, Option<&'static str>),
     // The bytes of disks and files, and how many ranges are pending, writes and runs were made, calls
     // were numbered and calls failed.
     See(Rows, Rows, [u64; 5]),
@@ -141,6 +145,61 @@ fn runs(
     ends(ran, end) && filled
 }
 
+// The same of a boot program, with all that it puts out.
+fn boots(
+    m: &mut Bench,
+    alloc: Global,
+    program: Text,
+    args: &[&str],
+    end: Option<(Ended, &str)>,
+) -> bool {
+    let mut child = Child {
+        class: ChildClass::Boot,
+        program,
+        args: Items::new(alloc),
+        env: Items::new(alloc),
+        spares: Spares {
+            disks: Items::new(alloc),
+            files: Items::new(alloc),
+            boot: false,
+        },
+    };
+    let filled = push_texts(&mut child.args, alloc, args);
+    let ran = m.run(alloc, &child);
+    drop(child);
+    puts_out(ran, end) && filled
+}
+
+fn puts_out(ran: Result<Exit, RunStop>, end: Option<(Ended, &str)>) -> bool {
+    match (ran, end) {
+        (Ok(exit), Some((ended, out))) => {
+            let same = exit.ended == ended && exit.out.as_slice() == out.as_bytes();
+            drop(exit);
+            same
+        }
+        (Err(RunStop::Failed), None) => true,
+        _ => false,
+    }
+}
+
+fn boots_program(m: &mut Bench, alloc: Global, args: &[&str], end: Option<(Ended, &str)>) -> bool {
+    match Text::new(alloc, MOUNT) {
+        Ok(program) => boots(m, alloc, program, args, end),
+        Err(NoMemory) => false,
+    }
+}
+
+fn has_variable(m: &Bench, name: &str, value: Option<&str>) -> bool {
+    match m.world() {
+        Ok(world) => {
+            let same = world.vars.get(name) == value;
+            drop(world);
+            same
+        }
+        Err(NoMemory) => false,
+    }
+}
+
 fn runs_program(
     m: &mut Bench,
     alloc: Global,
@@ -201,6 +260,8 @@ fn is_right(m: &mut Bench, alloc: Global, step: &Step) -> bool {
         Step::Replace(path, bytes, done) => replaces(m, path, bytes, *done),
         Step::Now(seconds) => tells(m, *seconds),
         Step::Run(program, args, end) => runs_program(m, alloc, program, args, *end),
+        Step::Boot(args, end) => boots_program(m, alloc, args, *end),
+        Step::Variable(name, value) => has_variable(m, name, *value),
         Step::See(disks, files, counts) => sees(m, disks, files, counts),
     }
 }

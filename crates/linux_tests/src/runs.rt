@@ -1,7 +1,4 @@
 // Children.
-ghost use Rattle.std.specs.Prelude.{◌≡◌, false, IfOk};
-ghost use Rattle.machine.specs.Spares.{is_boot};
-
 use crate::paths::Deed::IsGone;
 use crate::steps::Place::{At, New};
 use crate::steps::Step::{Beside, Ends, Piece, Puts, Refused, Write};
@@ -110,9 +107,7 @@ fn test_var(alloc: Global) -> Result<Items<EnvVar>, NoMemory> {
 }
 
 // A child that need leave nothing alone.
-fn helper_of(alloc: Global, program: Text, args: Items<Text>, env: Items<EnvVar>) -> Child
-    ensures { is_boot result.class ≡ false }
-{
+fn helper_of(alloc: Global, program: Text, args: Items<Text>, env: Items<EnvVar>) -> Child {
     Child {
         class: ChildClass::Helper,
         program,
@@ -127,9 +122,7 @@ fn helper_of(alloc: Global, program: Text, args: Items<Text>, env: Items<EnvVar>
 }
 
 // A child with one variable, which need leave nothing alone.
-fn helper(alloc: Global, program: &str, args: &[&str], path: &str) -> Result<Child, NoMemory>
-    ensures { IfOk result (λ c. is_boot c.class ≡ false) }
-{
+fn helper(alloc: Global, program: &str, args: &[&str], path: &str) -> Result<Child, NoMemory> {
     let program = Text::new(alloc, program)?;
     let args = texts(alloc, args, path)?;
     let env = test_var(alloc)?;

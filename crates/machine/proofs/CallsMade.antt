@@ -3,6 +3,7 @@ use Rattle.std.proofs.Common.{◌≡◌, ◌||◌, ◌&&◌, ◌==◌, ◌+◌, 
 use Rattle.std.proofs.lemmas.List.{drop_at, length-append}
 use Rattle.std.proofs.lemmas.Bool.{true≢false}
 use Rattle.std.proofs.lemmas.Bool.Decides.{nat_tests}
+use Rattle.boot_model.specs.declared.boot_kind.BootKind.{BootKind}
 use Rattle.machine.specs.declared.stops.Fault.{Fault}
 use Rattle.machine.specs.declared.world.RunNote.{RunNote}
 use Rattle.machine.specs.declared.world.World.{World}
@@ -97,14 +98,14 @@ pub once_grows : (path : List ℕ) (a b : Past) → ReadsOnce path a b → Grows
 once_grows path a b (inl same) = subst (λ (p : Past). Grows a p) (sym same) (grows_refl a)
 once_grows path a b (inr did) = did_grows a b (File path) did.0 did.1
 
-once_after : (path : List ℕ) (w : World) (end : End) (v : World) → After (File path) end w v → v ≡ w
-once_after path w Done v h = h
-once_after path w Broken v h = h
-once_after path w Overlong v h = h
+once_after : (boot : BootKind) (path : List ℕ) (w : World) (end : End) (v : World) → After boot (File path) end w v → v ≡ w
+once_after boot path w Done v h = h
+once_after boot path w Broken v h = h
+once_after boot path w Overlong v h = h
 
 pub once_now : (path : List ℕ) (a b : Past) → ReadsOnce path a b → world_now b ≡ world_now a
 once_now path a b (inl same) = ap world_now same
-once_now path a b (inr did) = once_after path (world_now a) did.0 (world_now b) did.1.after
+once_now path a b (inr did) = once_after a.boot path (world_now a) did.0 (world_now b) did.1.after
 
 -- no reading is left out
 pub but_once : (out : Call → Bool) (path : List ℕ) (a b : Past) → out (File path) ≡ false → ReadsOnce path a b → first_failed_but out (moments_since a b) ≡ failed_since a b

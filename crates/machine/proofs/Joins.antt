@@ -1,5 +1,6 @@
 -- Reads, one after another.
 use Rattle.std.proofs.Common.{◌≡◌, ℕ, ℤ, Bool, List, Result, Ok, Err, IsTrue, refl, sym, ◌∙◌, ap, subst, arith}
+use Rattle.boot_model.specs.declared.boot_kind.BootKind.{BootKind}
 use Rattle.machine.specs.declared.world.World.{World}
 use Rattle.machine.specs.declared.calls.CallStop.{CallStop}
 use Rattle.machine.specs.declared.calls.ReadStop.{ReadStop}
@@ -48,36 +49,36 @@ now_unchanged t a b ab told = always_now a b (λ u. u ≡ world_now a) (ab.all t
 pub reads_unchanged : (t : Bool) (a b : Past) → Unchanged t a b → OnlyReads t a b
 reads_unchanged t a b ab = record { all = λ told. always_weaker a b (λ u. u ≡ world_now a) (IsRead (world_now a)) (λ u h. is_read_same (world_now a) u h) (ab.all told) }
 
-size_after : (path : List ℕ) (w : World) (end : End) (v : World) → After (Size path) end w v → v ≡ w
-size_after path w Done v h = h
-size_after path w Broken v h = h
-size_after path w Overlong v h = h
+size_after : (boot : BootKind) (path : List ℕ) (w : World) (end : End) (v : World) → After boot (Size path) end w v → v ≡ w
+size_after boot path w Done v h = h
+size_after boot path w Broken v h = h
+size_after boot path w Overlong v h = h
 
 -- the asking of a length
 pub unchanged_size : {T : Type 0} (t : Bool) (a b : Past) (path : List ℕ) (result : Result T CallStop) → (IsTrue t → Ends a b (Size path) result) → Unchanged t a b
 unchanged_size t a b path result ends = record {
-  all = λ told. always_ends a b (Size path) (λ u. u ≡ world_now a) result (ends told) refl (λ u h. h) (λ end v h. size_after path (world_now a) end v h);
+  all = λ told. always_ends a b (Size path) (λ u. u ≡ world_now a) result (ends told) refl (λ u h. h) (λ end v h. size_after a.boot path (world_now a) end v h);
 }
 
 -- a look at the clock
-clock_after : (seconds : ℤ) (w : World) (end : End) (v : World) → After (Clock seconds) end w v → v ≡ w
-clock_after seconds w Done v h = h
-clock_after seconds w Broken v h = h
-clock_after seconds w Overlong v h = h
+clock_after : (boot : BootKind) (seconds : ℤ) (w : World) (end : End) (v : World) → After boot (Clock seconds) end w v → v ≡ w
+clock_after boot seconds w Done v h = h
+clock_after boot seconds w Broken v h = h
+clock_after boot seconds w Overlong v h = h
 
 pub unchanged_clock : {T : Type 0} (t : Bool) (a b : Past) (seconds : ℤ) (result : Result T CallStop) → (IsTrue t → Ends a b (Clock seconds) result) → Unchanged t a b
 unchanged_clock t a b seconds result ends = record {
-  all = λ told. always_ends a b (Clock seconds) (λ u. u ≡ world_now a) result (ends told) refl (λ u h. h) (λ end v h. clock_after seconds (world_now a) end v h);
+  all = λ told. always_ends a b (Clock seconds) (λ u. u ≡ world_now a) result (ends told) refl (λ u h. h) (λ end v h. clock_after a.boot seconds (world_now a) end v h);
 }
 
 -- the reading of a whole file
-file_after : (path : List ℕ) (w : World) (end : End) (v : World) → After (File path) end w v → v ≡ w
-file_after path w Done v h = h
-file_after path w Broken v h = h
-file_after path w Overlong v h = h
+file_after : (boot : BootKind) (path : List ℕ) (w : World) (end : End) (v : World) → After boot (File path) end w v → v ≡ w
+file_after boot path w Done v h = h
+file_after boot path w Broken v h = h
+file_after boot path w Overlong v h = h
 
 file_did : (a b : Past) (path : List ℕ) (end : End) → IsCall a b (File path) end → Always a b (λ u. u ≡ world_now a)
-file_did a b path end did = always_did a b (File path) end (λ u. u ≡ world_now a) did refl (λ u h. h) (file_after path (world_now a) end (world_now b) did.after)
+file_did a b path end did = always_did a b (File path) end (λ u. u ≡ world_now a) did refl (λ u h. h) (file_after a.boot path (world_now a) end (world_now b) did.after)
 
 file_leaves : {T : Type 0} (a b : Past) (path : List ℕ) (result : Result T ReadStop) → FileEnds a b path result → Always a b (λ u. u ≡ world_now a)
 file_leaves a b path (Ok x) did = file_did a b path Done did

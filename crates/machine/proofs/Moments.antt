@@ -1,6 +1,7 @@
 -- How the past goes on, and what is true of each world since a moment.
 use Rattle.std.proofs.Common.{◌≡◌, ◌⊎◌, inl, inr, ⊎_elim, ℕ, List, [], ◌∷◌, ◌++◌, length, take, drop, ◌≤◌, arith, Result, Ok, Err, refl, sym, ◌∙◌, ap, subst, append_assoc}
 use Rattle.std.proofs.lemmas.List.{append-nil, drop_at, length-take-le, take-append-drop, take-take}
+use Rattle.boot_model.specs.declared.boot_kind.BootKind.{BootKind}
 use Rattle.machine.specs.declared.world.World.{World}
 use Rattle.machine.specs.declared.calls.CallStop.{CallStop}
 use Rattle.machine.specs.declared.calls.CallStop.TheVariants.{Failed, NoMemory}
@@ -47,40 +48,50 @@ pub grows_trans : (a b c : Past) → Grows a b → Grows b c → Grows a c
 grows_trans a b c ab bc =
     subst (λ (q : Past). Grows a q) (sym (more_joins a b c ab bc)) (grows_more a (moments_since a b ++ moments_since b c))
 
+-- the boot loader stays
+pub same_boot : (a b : Past) → Grows a b → b.boot ≡ a.boot
+same_boot a b g = ap (λ (p : Past). p.boot) g
+
 -- each world of two runs is one of the first or one of the second
-pub WasIn-append : (w : World) (ms ns : List Moment) (u : World) → WorldAmong w (ms ++ ns) u → WorldAmong w ms u ⊎ WorldAmong (world_after w ms) ns u
-WasIn-append w [] ns u was = inr was
-WasIn-append w (m ∷ ms) ns u (inl e) = inl (inl e)
-WasIn-append w (m ∷ ms) ns u (inr (inl inside)) = inl (inr (inl inside))
-WasIn-append w (m ∷ ms) ns u (inr (inr later)) =
-    ⊎_elim (λ h. inl (inr (inr h))) (λ h. inr h) (WasIn-append m.after ms ns u later)
+pub WasIn-append : (boot : BootKind) (w : World) (ms ns : List Moment) (u : World) → WorldAmong boot w (ms ++ ns) u → WorldAmong boot w ms u ⊎ WorldAmong boot (world_after w ms) ns u
+WasIn-append boot w [] ns u was = inr was
+WasIn-append boot w (m ∷ ms) ns u (inl e) = inl (inl e)
+WasIn-append boot w (m ∷ ms) ns u (inr (inl inside)) = inl (inr (inl inside))
+WasIn-append boot w (m ∷ ms) ns u (inr (inr later)) =
+    ⊎_elim (λ h. inl (inr (inr h))) (λ h. inr h) (WasIn-append boot m.after ms ns u later)
 
-pub WasIn-left : (w : World) (ms ns : List Moment) (u : World) → WorldAmong w ms u → WorldAmong w (ms ++ ns) u
-WasIn-left w [] [] u e = e
-WasIn-left w [] (n ∷ ns) u e = inl e
-WasIn-left w (m ∷ ms) ns u (inl e) = inl e
-WasIn-left w (m ∷ ms) ns u (inr (inl inside)) = inr (inl inside)
-WasIn-left w (m ∷ ms) ns u (inr (inr later)) = inr (inr (WasIn-left m.after ms ns u later))
+pub WasIn-left : (boot : BootKind) (w : World) (ms ns : List Moment) (u : World) → WorldAmong boot w ms u → WorldAmong boot w (ms ++ ns) u
+WasIn-left boot w [] [] u e = e
+WasIn-left boot w [] (n ∷ ns) u e = inl e
+WasIn-left boot w (m ∷ ms) ns u (inl e) = inl e
+WasIn-left boot w (m ∷ ms) ns u (inr (inl inside)) = inr (inl inside)
+WasIn-left boot w (m ∷ ms) ns u (inr (inr later)) = inr (inr (WasIn-left boot m.after ms ns u later))
 
-pub WasIn-right : (w : World) (ms ns : List Moment) (u : World) → WorldAmong (world_after w ms) ns u → WorldAmong w (ms ++ ns) u
-WasIn-right w [] ns u was = was
-WasIn-right w (m ∷ ms) ns u was = inr (inr (WasIn-right m.after ms ns u was))
+pub WasIn-right : (boot : BootKind) (w : World) (ms ns : List Moment) (u : World) → WorldAmong boot (world_after w ms) ns u → WorldAmong boot w (ms ++ ns) u
+WasIn-right boot w [] ns u was = was
+WasIn-right boot w (m ∷ ms) ns u was = inr (inr (WasIn-right boot m.after ms ns u was))
 
 module _ (a b c : Past) (ab : Grows a b) (bc : Grows b c) (u : World) where
+  -- the worlds since b, from the worlds and the boot loader of a
+  since_b : WorldSince b c u ≡ WorldAmong a.boot (world_after (world_now a) (moments_since a b)) (moments_since b c) u
+  since_b =
+      ap (λ (boot : BootKind). WorldAmong boot (world_now b) (moments_since b c) u) (same_boot a b ab)
+      ∙ ap (λ (w : World). WorldAmong a.boot w (moments_since b c) u) (now-grows a b ab)
+
   pub was_splits : WorldSince a c u → WorldSince a b u ⊎ WorldSince b c u
   was_splits was =
-      let at = subst (λ (ms : List Moment). WorldAmong (world_now a) ms u) (made_joins a b c ab bc) was in
-      let back : WorldAmong (world_after (world_now a) (moments_since a b)) (moments_since b c) u → WorldSince b c u = λ h. subst (λ (w : World). WorldAmong w (moments_since b c) u) (sym (now-grows a b ab)) h in
-      ⊎_elim (λ h. inl h) (λ h. inr (back h)) (WasIn-append (world_now a) (moments_since a b) (moments_since b c) u at)
+      let at = subst (λ (ms : List Moment). WorldAmong a.boot (world_now a) ms u) (made_joins a b c ab bc) was in
+      let back : WorldAmong a.boot (world_after (world_now a) (moments_since a b)) (moments_since b c) u → WorldSince b c u = λ h. subst (λ (T : Type 0). T) (sym since_b) h in
+      ⊎_elim (λ h. inl h) (λ h. inr (back h)) (WasIn-append a.boot (world_now a) (moments_since a b) (moments_since b c) u at)
 
   pub was_before : WorldSince a b u → WorldSince a c u
   was_before was =
-      subst (λ (ms : List Moment). WorldAmong (world_now a) ms u) (sym (made_joins a b c ab bc)) (WasIn-left (world_now a) (moments_since a b) (moments_since b c) u was)
+      subst (λ (ms : List Moment). WorldAmong a.boot (world_now a) ms u) (sym (made_joins a b c ab bc)) (WasIn-left a.boot (world_now a) (moments_since a b) (moments_since b c) u was)
 
   pub was_after : WorldSince b c u → WorldSince a c u
   was_after was =
-      subst (λ (ms : List Moment). WorldAmong (world_now a) ms u) (sym (made_joins a b c ab bc))
-      (WasIn-right (world_now a) (moments_since a b) (moments_since b c) u (subst (λ (w : World). WorldAmong w (moments_since b c) u) (now-grows a b ab) was))
+      subst (λ (ms : List Moment). WorldAmong a.boot (world_now a) ms u) (sym (made_joins a b c ab bc))
+      (WasIn-right a.boot (world_now a) (moments_since a b) (moments_since b c) u (subst (λ (T : Type 0). T) since_b was))
 
 -- the law that joins what calls say of a stop
 pub held_splits : (a b c : Past) → Grows a b → Grows b c → (v : World) → Held a c v → Held a b v ⊎ Held b c v
@@ -95,7 +106,7 @@ held_joins a b c ab bc v (inr h) = (h.0, was_after a b c ab bc h.0 h.1, h.2)
 pub always_start : (a : Past) (P : World → Type 0) → P (world_now a) → Always a a P
 always_start a P here = record {
   grows = grows_refl a;
-  each = λ u was. subst P (sym (subst (λ (ms : List Moment). WorldAmong (world_now a) ms u) (made_none a) was)) here;
+  each = λ u was. subst P (sym (subst (λ (ms : List Moment). WorldAmong a.boot (world_now a) ms u) (made_none a) was)) here;
 }
 
 pub always_joins : (a b c : Past) (P : World → Type 0) → Always a b P → Always b c P → Always a c P
@@ -111,17 +122,17 @@ pub did_grows : (a b : Past) (call : Call) (end : End) → IsCall a b call end �
 did_grows a b call end did =
     subst (λ (q : Past). Grows a q) (sym did.grows) (grows_more a (record { call = call; end = end; after = world_now b } ∷ []))
 
-pub always_did : (a b : Past) (call : Call) (end : End) (P : World → Type 0) → IsCall a b call end → P (world_now a) → ((u : World) → Inside call (world_now a) u → P u) → P (world_now b) → Always a b P
+pub always_did : (a b : Past) (call : Call) (end : End) (P : World → Type 0) → IsCall a b call end → P (world_now a) → ((u : World) → Inside a.boot call (world_now a) u → P u) → P (world_now b) → Always a b P
 always_did a b call end P did here inside there = record {
   grows = did_grows a b call end did;
   each = λ u was.
       let made_one = ap (λ (p : Past). moments_since a p) did.grows ∙ made_more a (record { call = call; end = end; after = world_now b } ∷ []) in
-      let at = subst (λ (ms : List Moment). WorldAmong (world_now a) ms u) made_one was in
+      let at = subst (λ (ms : List Moment). WorldAmong a.boot (world_now a) ms u) made_one was in
       ⊎_elim (λ e. subst P (sym e) here) (λ h. ⊎_elim (inside u) (λ e. subst P (sym e) there) h) at;
 }
 
 -- however the call ended
-pub always_ends : {T : Type 0} (a b : Past) (call : Call) (P : World → Type 0) (result : Result T CallStop) → Ends a b call result → P (world_now a) → ((u : World) → Inside call (world_now a) u → P u) → ((end : End) (v : World) → After call end (world_now a) v → P v) → Always a b P
+pub always_ends : {T : Type 0} (a b : Past) (call : Call) (P : World → Type 0) (result : Result T CallStop) → Ends a b call result → P (world_now a) → ((u : World) → Inside a.boot call (world_now a) u → P u) → ((end : End) (v : World) → After a.boot call end (world_now a) v → P v) → Always a b P
 always_ends a b call P (Ok x) did here inside after = always_did a b call Done P did here inside (after Done (world_now b) did.after)
 always_ends a b call P (Err Failed) did here inside after = always_did a b call Broken P did here inside (after Broken (world_now b) did.after)
 always_ends a b call P (Err NoMemory) same here inside after = subst (λ (q : Past). Always a q P) (sym same) (always_start a P here)
@@ -131,18 +142,18 @@ pub held_of : (a b : Past) (P Q : World → Type 0) → Always a b P → ((u v :
 held_of a b P Q ab f v held = f held.0 v (ab.each held.0 held.1) held.2
 
 -- the world now is one of those since
-WasIn-last : (w : World) (ms : List Moment) → WorldAmong w ms (world_after w ms)
-WasIn-last w [] = refl
-WasIn-last w (m ∷ ms) = inr (inr (WasIn-last m.after ms))
+WasIn-last : (boot : BootKind) (w : World) (ms : List Moment) → WorldAmong boot w ms (world_after w ms)
+WasIn-last boot w [] = refl
+WasIn-last boot w (m ∷ ms) = inr (inr (WasIn-last boot m.after ms))
 
 pub was_now : (a b : Past) → Grows a b → WorldSince a b (world_now b)
-was_now a b g = subst (λ (w : World). WorldSince a b w) (sym (now-grows a b g)) (WasIn-last (world_now a) (moments_since a b))
+was_now a b g = subst (λ (w : World). WorldSince a b w) (sym (now-grows a b g)) (WasIn-last a.boot (world_now a) (moments_since a b))
 
 pub always_now : (a b : Past) (P : World → Type 0) → Always a b P → P (world_now b)
 always_now a b P ab = ab.each (world_now b) (was_now a b ab.grows)
 
 -- one call more
-pub always_goes_on : {T : Type 0} (a b c : Past) (call : Call) (P : World → Type 0) (result : Result T CallStop) → Always a b P → Ends b c call result → ((u : World) → P (world_now b) → Inside call (world_now b) u → P u) → ((end : End) (v : World) → P (world_now b) → After call end (world_now b) v → P v) → Always a c P
+pub always_goes_on : {T : Type 0} (a b c : Past) (call : Call) (P : World → Type 0) (result : Result T CallStop) → Always a b P → Ends b c call result → ((u : World) → P (world_now b) → Inside b.boot call (world_now b) u → P u) → ((end : End) (v : World) → P (world_now b) → After b.boot call end (world_now b) v → P v) → Always a c P
 always_goes_on a b c call P result ab ends inside after =
     let here = always_now a b P ab in
     always_joins a b c P ab (always_ends b c call P result ends here (λ u h. inside u here h) (λ end v h. after end v here h))

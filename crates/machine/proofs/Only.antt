@@ -7,6 +7,7 @@ use Rattle.std.proofs.lemmas.List.Elements.{All-append, All-cons, All-head, All-
 use Rattle.std.proofs.lemmas.Slice.Eq.{bytes_eq-Decides}
 use Rattle.std.specs.Prelude.{◌&&◌, bytes_eq, nat_le, nat_lt, not, slice_get, slice_index_or, Result}
 use Rattle.std.specs.Option.{option_map, option_and_then}
+use Rattle.boot_model.specs.declared.boot_kind.BootKind.{BootKind}
 use Rattle.machine.specs.declared.world.Span.{Span}
 use Rattle.machine.specs.declared.world.World.{World}
 use Rattle.machine.specs.declared.calls.CallStop.{CallStop}
@@ -167,28 +168,28 @@ only_scribbled w u device at n holds h =
 only_same : (w u : World) (device : List ℕ) (from to : ℕ) → u ≡ w → DiffersOnlyIn device from to w u
 only_same w u device from to e = subst (λ (x : World). DiffersOnlyIn device from to w x) (sym e) (only_refl device from to w)
 
-after_write : (w u : World) (device : List ℕ) (at n : ℕ) (end : End) → HoldsUpTo w device (at + n) → After (Write device at n) end w u → DiffersOnlyIn device at (at + n) w u
-after_write w u device at n Done holds h = only_scribbled w u device at n holds h
-after_write w u device at n Broken holds (inl h) = only_same w u device at (at + n) h
-after_write w u device at n Broken holds (inr h) = only_scribbled w u device at n holds h
-after_write w u device at n Overlong holds h = only_same w u device at (at + n) h
+after_write : (boot : BootKind) (w u : World) (device : List ℕ) (at n : ℕ) (end : End) → HoldsUpTo w device (at + n) → After boot (Write device at n) end w u → DiffersOnlyIn device at (at + n) w u
+after_write boot w u device at n Done holds h = only_scribbled w u device at n holds h
+after_write boot w u device at n Broken holds (inl h) = only_same w u device at (at + n) h
+after_write boot w u device at n Broken holds (inr h) = only_scribbled w u device at n holds h
+after_write boot w u device at n Overlong holds h = only_same w u device at (at + n) h
 
-after_sync : (w v : World) (device : List ℕ) (from to : ℕ) (end : End) → After (Sync device) end w v → DiffersOnlyIn device from to w v
-after_sync w v device from to Done h = subst (λ (x : World). DiffersOnlyIn device from to w x) (sym h) (only_synced device from to w)
-after_sync w v device from to Broken h = only_same w v device from to h
-after_sync w v device from to Overlong h = only_same w v device from to h
+after_sync : (boot : BootKind) (w v : World) (device : List ℕ) (from to : ℕ) (end : End) → After boot (Sync device) end w v → DiffersOnlyIn device from to w v
+after_sync boot w v device from to Done h = subst (λ (x : World). DiffersOnlyIn device from to w x) (sym h) (only_synced device from to w)
+after_sync boot w v device from to Broken h = only_same w v device from to h
+after_sync boot w v device from to Overlong h = only_same w v device from to h
 
 -- whole calls
 pub writes_write : {T : Type 0} (t : Bool) (a b : Past) (device : List ℕ) (at n : ℕ) (result : Result T CallStop) → WriteFits t a device (at + n) → (IsTrue t → Ends a b (Write device at n) result) → ChangesOnly t device at (at + n) a b
 writes_write t a b device at n result has ends = record {
   all = λ told.
       let holds = has.room told in
-      always_ends a b (Write device at n) (DiffersOnlyIn device at (at + n) (world_now a)) result (ends told) (only_refl device at (at + n) (world_now a)) (λ u h. only_scribbled (world_now a) u device at n holds h) (λ end v h. after_write (world_now a) v device at n end holds h);
+      always_ends a b (Write device at n) (DiffersOnlyIn device at (at + n) (world_now a)) result (ends told) (only_refl device at (at + n) (world_now a)) (λ u h. only_scribbled (world_now a) u device at n holds h) (λ end v h. after_write a.boot (world_now a) v device at n end holds h);
 }
 
 pub writes_sync : {T : Type 0} (t : Bool) (a b : Past) (device : List ℕ) (from to : ℕ) (result : Result T CallStop) → (IsTrue t → Ends a b (Sync device) result) → ChangesOnly t device from to a b
 writes_sync t a b device from to result ends = record {
-  all = λ told. always_ends a b (Sync device) (DiffersOnlyIn device from to (world_now a)) result (ends told) (only_refl device from to (world_now a)) (λ u h. only_same (world_now a) u device from to h) (λ end v h. after_sync (world_now a) v device from to end h);
+  all = λ told. always_ends a b (Sync device) (DiffersOnlyIn device from to (world_now a)) result (ends told) (only_refl device from to (world_now a)) (λ u h. only_same (world_now a) u device from to h) (λ end v h. after_sync a.boot (world_now a) v device from to end h);
 }
 
 pub writes_none : (t : Bool) (device : List ℕ) (from to : ℕ) (a b : Past) → OnlyReads t a b → ChangesOnly t device from to a b

@@ -4,6 +4,7 @@ use Rattle.std.specs.Prelude.{is_some}
 use Rattle.std.proofs.Math.Seq.{take-add, take-append-add, drop-append-add}
 use Rattle.std.proofs.lemmas.List.{append-nil, drop_all, drop-drop, length-drop, length-take, length-take-le, take-append-le, take_all}
 use borrow.Rule.Slice.PartMut.{put_mid, post_of}
+use Rattle.boot_model.specs.declared.boot_kind.BootKind.{BootKind}
 use Rattle.machine.specs.declared.world.World.{World}
 use Rattle.machine.specs.declared.calls.CallStop.{CallStop}
 use Rattle.machine.specs.World.{disk, disk_length, readable, with_fetched, HoldsUpTo}
@@ -37,14 +38,14 @@ room_read t a b p end reads has = record {
   room = λ told. holds_read (world_now a) (world_now b) p end (always_now a b (IsRead (world_now a)) (reads.all told)) (has.room told);
 }
 
-after_read : (w v : World) (p : List ℕ) (n : ℕ) (end : End) → After (Read p n) end w v → IsRead w v
-after_read w v p n Done e = subst (λ (u : World). IsRead w u) (sym e) (fetching_is_read w p n)
-after_read w v p n Broken e = is_read_same w v e
-after_read w v p n Overlong e = is_read_same w v e
+after_read : (boot : BootKind) (w v : World) (p : List ℕ) (n : ℕ) (end : End) → After boot (Read p n) end w v → IsRead w v
+after_read boot w v p n Done e = subst (λ (u : World). IsRead w u) (sym e) (fetching_is_read w p n)
+after_read boot w v p n Broken e = is_read_same w v e
+after_read boot w v p n Overlong e = is_read_same w v e
 
 pub reads_at : {T : Type 0} (t : Bool) (a b : Past) (p : List ℕ) (n : ℕ) (result : Result T CallStop) → (IsTrue t → Ends a b (Read p n) result) → OnlyReads t a b
 reads_at t a b p n result ends = record {
-  all = λ told. always_ends a b (Read p n) (IsRead (world_now a)) result (ends told) (is_read_refl (world_now a)) (λ u h. is_read_same (world_now a) u h) (λ end v h. after_read (world_now a) v p n end h);
+  all = λ told. always_ends a b (Read p n) (IsRead (world_now a)) result (ends told) (is_read_refl (world_now a)) (λ u h. is_read_same (world_now a) u h) (λ end v h. after_read a.boot (world_now a) v p n end h);
 }
 
 -- one read after another counts as one

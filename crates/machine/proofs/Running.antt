@@ -1,7 +1,6 @@
 -- Children that are run one after another, and what they leave alone.
-use Rattle.std.proofs.Common.{◌≡◌, ◌&&◌, ◌||◌, ℕ, Bool, true, false, List, [], ◌∷◌, ◌++◌, Option, Result, IsTrue, refl, sym, ◌∙◌, ap, subst, arith, append_assoc, slice_get}
+use Rattle.std.proofs.Common.{◌≡◌, ◌||◌, ℕ, Bool, true, false, List, [], ◌∷◌, ◌++◌, Option, Result, IsTrue, refl, sym, ◌∙◌, ap, subst, arith, append_assoc, slice_get}
 use Rattle.std.proofs.lemmas.List.{append-nil, map-append}
-use Rattle.std.specs.Prelude.{not}
 use Rattle.std.specs.Option.{option_and_then}
 use Rattle.machine.specs.declared.calls.RunStop.{RunStop}
 use Rattle.machine.specs.declared.world.Child.{Child}
@@ -17,24 +16,13 @@ use Rattle.machine.specs.Crash.{Crash, is_in}
 use Rattle.machine.specs.Frames.{IsRead, OnlyReads}
 use Rattle.machine.specs.Past.{Past, Held, world_now}
 use Rattle.machine.specs.Runs.{LeftAlone, LeftByAStop, OnlyRuns, RanAll, RunsFirst, SparesThese, children_in}
-use Rattle.machine.specs.Spares.{Spared, has_disk, has_file, is_boot, is_kernels, spans_of, spares_file, spares_vars}
+use Rattle.machine.specs.Spares.{Spared, has_file, is_kernels, spans_of, spares_file}
 use Rattle.machine.proofs.Moments.{always_joins, always_now, always_start, always_weaker, held_of}
-use Rattle.machine.proofs.Sparing.{always_run, is_in-spans_of}
-
-or_second : (a b : Bool) → IsTrue b → IsTrue (a || b)
-or_second true b h = refl
-or_second false b h = h
+use Rattle.machine.proofs.Sparing.{always_run, is_in-spans_of, leaves_spared}
 
 or_onto : (a b c : Bool) → (IsTrue b → IsTrue c) → IsTrue (a || b) → IsTrue (a || c)
 or_onto true b c f h = refl
 or_onto false b c f h = f h
-
-and_true : (b : Bool) → IsTrue b → (b && true) ≡ true
-and_true true h = refl
-and_true false h = h
-
-vars_spared : (child : Child) → is_boot child.class ≡ false → IsTrue child.spares.boot → IsTrue (spares_vars child)
-vars_spared child none h = ap (λ b. child.spares.boot && not b) none ∙ and_true child.spares.boot h
 
 -- ---- which were run
 
@@ -110,7 +98,7 @@ left_alone_trans spares first second notes u v w all exact uv vw = record {
 
 file_spared : (spares : Spares) (child : Child) (path : List ℕ) → SparesThese spares child → IsTrue (is_kernels path || has_file spares path) → IsTrue (spares_file child path)
 file_spared spares child path these h =
-    or_onto (is_kernels path) (has_file spares path) (is_boot child.class || has_file child.spares path) (λ is. or_second (is_boot child.class) (has_file child.spares path) (these.files path is)) h
+    or_onto (is_kernels path) (has_file spares path) (has_file child.spares path) (these.files path) h
 
 -- a child that spares these
 left_alone_spared : (spares : Spares) (children : List Child) (child : Child) (w v : World) → SparesThese spares child → Spared child w v → RunsFirst children w v → LeftAlone spares children w v
@@ -119,10 +107,10 @@ left_alone_spared spares children child w v these spared runs = record {
   writes = spared.writes;
   fetched = omega (arith, spared.fetched);
   lengths = spared.lengths;
-  disks = λ path is. spared.disks path (or_second (is_boot child.class) (has_disk child.spares path) (these.disks path is));
-  pending = λ path is. spared.pending path (or_second (is_boot child.class) (has_disk child.spares path) (these.disks path is));
+  disks = λ path is. spared.disks path (these.disks path is);
+  pending = λ path is. spared.pending path (these.disks path is);
   files = λ path is. spared.files path (file_spared spares child path these is);
-  vars = λ is. spared.vars (vars_spared child these.class (these.boot is));
+  vars = λ is. spared.vars (these.boot is);
 }
 
 -- ---- one after another
@@ -155,8 +143,8 @@ pub only_runs_run : (t : Bool) (spares : Spares) (child : Child) (a b : Past) (r
 only_runs_run t spares child a b result these ends = record {
   all = λ told.
       always_run a b child (LeftAlone spares (child ∷ []) (world_now a)) result (ends told) (left_alone_refl spares (child ∷ []) (world_now a))
-      (λ u h. left_alone_spared spares (child ∷ []) child (world_now a) u these h.0 (runs_first_none (child ∷ []) (world_now a) u h.1))
-      (λ exit v h. left_alone_spared spares (child ∷ []) child (world_now a) v these h.0 (runs_first_one child exit (world_now a) v h.1));
+      (λ u h. left_alone_spared spares (child ∷ []) child (world_now a) u these (leaves_spared child.class a.boot child (world_now a) u these.class h.0) (runs_first_none (child ∷ []) (world_now a) u h.1))
+      (λ exit v h. left_alone_spared spares (child ∷ []) child (world_now a) v these (leaves_spared child.class a.boot child (world_now a) v these.class h.0) (runs_first_one child exit (world_now a) v h.1));
 }
 
 -- the children of both

@@ -3,7 +3,12 @@ use Rattle.std.proofs.Common.{◌≡◌, ◌≢◌, ◌⊎◌, inl, inr, IsTrue,
 use Rattle.std.specs.Prelude.{bytes_eq}
 use Rattle.std.proofs.lemmas.Bool.{true≢false}
 use Rattle.std.proofs.lemmas.Slice.Eq.{bytes_eq-Decides}
+use Rattle.boot_model.specs.declared.boot_kind.BootKind.{BootKind}
 use Rattle.machine.specs.declared.world.Child.{Child}
+use Rattle.machine.specs.declared.world.ChildClass.{ChildClass}
+use Rattle.machine.specs.declared.world.ChildClass.TheVariants.{Boot, Helper, Handler, Hook}
+use Rattle.machine.specs.declared.world.Ended.{Ended}
+use Rattle.machine.specs.declared.world.Ended.TheVariants.{Code}
 use Rattle.machine.specs.declared.world.Exit.{Exit}
 use Rattle.machine.specs.declared.world.Named.{Named}
 use Rattle.machine.specs.declared.world.Span.{Span}
@@ -12,7 +17,8 @@ use Rattle.machine.specs.declared.calls.RunStop.{RunStop}
 use Rattle.machine.specs.declared.calls.RunStop.TheVariants as run
 use Rattle.machine.specs.World.{bytes_under, file, put_under, with_file}
 use Rattle.machine.specs.Crash.{covers, is_in}
-use Rattle.machine.specs.Spares.{Spared, spans_of}
+use Rattle.machine.specs.Spares.{Spared, is_boot, spans_of}
+use Rattle.machine.specs.Leaves.{BootLeaves, Leaves, Serves, program_vars}
 use Rattle.machine.specs.Frames.{ReplacesOnly}
 use Rattle.machine.specs.Past.{Past, After, End, Replace, Run, Done, Broken, Overlong, Inside, IsRun, Always, world_now}
 use Rattle.machine.specs.declared.calls.CallStop.{CallStop}
@@ -43,6 +49,45 @@ spared_trans child u v w uv vw = record {
   vars = λ spares. vw.vars spares ∙ uv.vars spares;
 }
 
+-- what a child leaves that is no boot program
+pub leaves_spared : (class : ChildClass) (boot : BootKind) (child : Child) (w v : World) → is_boot class ≡ false → Leaves class boot child w v → Spared child w v
+leaves_spared Boot boot child w v none left = absurd (true≢false none)
+leaves_spared Helper boot child w v none left = left
+leaves_spared Handler boot child w v none left = left
+leaves_spared Hook boot child w v none left = left
+
+pub spared_leaves : (class : ChildClass) (boot : BootKind) (child : Child) (w v : World) → is_boot class ≡ false → Spared child w v → Leaves class boot child w v
+spared_leaves Boot boot child w v none spared = absurd (true≢false none)
+spared_leaves Helper boot child w v none spared = spared
+spared_leaves Handler boot child w v none spared = spared
+spared_leaves Hook boot child w v none spared = spared
+
+pub others_serve : (class : ChildClass) (boot : BootKind) (child : Child) (ended : Ended) (w v : World) → is_boot class ≡ false → Serves class boot child ended w v
+others_serve Boot boot child ended w v none = absurd (true≢false none)
+others_serve Helper boot child ended w v none = tt
+others_serve Handler boot child ended w v none = tt
+others_serve Hook boot child ended w v none = tt
+
+-- what a boot program leaves
+pub boot_leaves : (class : ChildClass) (boot : BootKind) (child : Child) (w v : World) → is_boot class ≡ true → BootLeaves boot child w v → Leaves class boot child w v
+boot_leaves Boot boot child w v class left = left
+boot_leaves Helper boot child w v class left = absurd (true≢false (sym class))
+boot_leaves Handler boot child w v class left = absurd (true≢false (sym class))
+boot_leaves Hook boot child w v class left = absurd (true≢false (sym class))
+
+pub boot_class_serves : (class : ChildClass) (boot : BootKind) (child : Child) (ended : Ended) (w v : World) → is_boot class ≡ true → (ended ≡ Code 0 → v.vars ≡ program_vars boot child w.vars) → Serves class boot child ended w v
+boot_class_serves Boot boot child ended w v class served = served
+boot_class_serves Helper boot child ended w v class served = tt
+boot_class_serves Handler boot child ended w v class served = tt
+boot_class_serves Hook boot child ended w v class served = tt
+
+-- a child may change nothing at all
+pub leaves_refl : (class : ChildClass) (boot : BootKind) (child : Child) (w : World) → Leaves class boot child w w
+leaves_refl Boot boot child w = record { rest = refl; vars = inl refl }
+leaves_refl Helper boot child w = spared_refl child w
+leaves_refl Handler boot child w = spared_refl child w
+leaves_refl Hook boot child w = spared_refl child w
+
 -- whether a byte is pending shows in the spans of its path
 pub is_in-spans_of : (spans : List Span) (path : List ℕ) (i : ℕ) → is_in (spans_of spans path) path i ≡ is_in spans path i
 is_in-spans_of [] path i = refl
@@ -53,7 +98,7 @@ is_in-spans_of (s ∷ ss) path i =
     ] refl
 
 -- the run of a child, however it ended
-pub always_run : (a b : Past) (child : Child) (P : World → Type 0) (result : Result Exit RunStop) → RunEnds a b child result → P (world_now a) → ((u : World) → Inside (Run child) (world_now a) u → P u) → ((exit : Exit) (v : World) → IsRun child exit (world_now a) v → P v) → Always a b P
+pub always_run : (a b : Past) (child : Child) (P : World → Type 0) (result : Result Exit RunStop) → RunEnds a b child result → P (world_now a) → ((u : World) → Inside a.boot (Run child) (world_now a) u → P u) → ((exit : Exit) (v : World) → IsRun a.boot child exit (world_now a) v → P v) → Always a b P
 always_run a b child P (Ok exit) ends here inside after =
     always_did a b (Run child) Done P ends.0 here inside (after ends.0.after.0 (world_now b) ends.0.after.1)
 always_run a b child P (Err run.Failed) did here inside after =
@@ -61,15 +106,15 @@ always_run a b child P (Err run.Failed) did here inside after =
 always_run a b child P (Err run.NoMemory) same here inside after = subst (λ (q : Past). Always a q P) (sym same) (always_start a P here)
 
 -- the replacement of a file, however it ended
-replaced : (path bytes : List ℕ) (w : World) (end : End) (v : World) → After (Replace path bytes) end w v → (v ≡ w) ⊎ (v ≡ with_file w path bytes)
-replaced path bytes w Done v h = inr h
-replaced path bytes w Broken v h = h
-replaced path bytes w Overlong v h = inl h
+replaced : (boot : BootKind) (path bytes : List ℕ) (w : World) (end : End) (v : World) → After boot (Replace path bytes) end w v → (v ≡ w) ⊎ (v ≡ with_file w path bytes)
+replaced boot path bytes w Done v h = inr h
+replaced boot path bytes w Broken v h = h
+replaced boot path bytes w Overlong v h = inl h
 
 pub replaces_only : {T : Type 0} (t : Bool) (a b : Past) (path bytes : List ℕ) (result : Result T CallStop) → (IsTrue t → Ends a b (Replace path bytes) result) → ReplacesOnly t path bytes a b
 replaces_only t a b path bytes result ends = record {
   all = λ told.
-      always_ends a b (Replace path bytes) (λ u. (u ≡ world_now a) ⊎ (u ≡ with_file (world_now a) path bytes)) result (ends told) (inl refl) (λ u h. h) (λ end v h. replaced path bytes (world_now a) end v h);
+      always_ends a b (Replace path bytes) (λ u. (u ≡ world_now a) ⊎ (u ≡ with_file (world_now a) path bytes)) result (ends told) (inl refl) (λ u h. h) (λ end v h. replaced a.boot path bytes (world_now a) end v h);
 }
 
 -- what stands under a path after bytes were put

@@ -12,6 +12,7 @@ use Rattle.machine.specs.declared.calls.RunStop.TheVariants as run
 use Rattle.machine.specs.declared.world.Child.{Child}
 use Rattle.machine.specs.declared.world.Exit.{Exit}
 use Rattle.machine.specs.World.{HoldsUpTo}
+use Rattle.machine.specs.Leaves.{Serves}
 use Rattle.machine.specs.Past.{Call, File, Run, Done, Broken, Overlong, Past, world_now, IsCall}
 
 -- the past after a call; a call that wanted memory is no moment of it
@@ -27,9 +28,12 @@ FileEnds old new path (Err read.Failed) = IsCall old new (File path) Broken
 FileEnds old new path (Err (read.TooLong n)) = IsCall old new (File path) Overlong
 FileEnds old new path (Err read.NoMemory) = new ≡ old
 
--- the same after the run of a child, which stands last in the runs with its end
+-- the same after the run of a child, which stands last in the runs with its end; a boot program that ended with 0 served
 abbrev pub RunEnds : Past → Past → Child → Result Exit RunStop → Type 0
-RunEnds old new child (Ok exit) = IsCall old new (Run child) Done × ((world_now new).runs ≡ (world_now old).runs ++ record { child = child; exit = exit } ∷ [])
+RunEnds old new child (Ok exit) =
+    IsCall old new (Run child) Done
+    × ((world_now new).runs ≡ (world_now old).runs ++ record { child = child; exit = exit } ∷ [])
+    × Serves child.class old.boot child exit.ended (world_now old) (world_now new)
 RunEnds old new child (Err run.Failed) = IsCall old new (Run child) Broken
 RunEnds old new child (Err run.NoMemory) = new ≡ old
 

@@ -1,6 +1,7 @@
 pub mod World
 pub mod Crash
 pub mod Spares
+pub mod Leaves
 pub mod Past
 pub mod Calls
 pub mod Frames

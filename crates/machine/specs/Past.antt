@@ -10,7 +10,7 @@ use Rattle.machine.specs.declared.world.Exit.{Exit}
 use Rattle.machine.specs.declared.world.World.{World}
 use Rattle.machine.specs.World.{with_write, with_sync, with_file, with_fetched}
 use Rattle.machine.specs.Crash.{Crash}
-use Rattle.machine.specs.Spares.{Spared}
+use Rattle.machine.specs.Leaves.{Leaves, Serves}
 
 -- a call with its arguments; of a write the place and length, of a read the number of bytes that it
 -- gave, of the clock the seconds that it said
@@ -45,28 +45,31 @@ kind_of (Clock seconds) = fault.Clock
 abbrev pub ArbitraryWrite : List ℕ → ℕ → ℕ → World → World → Type 0
 ArbitraryWrite path at count w v = (bytes : List ℕ) × (length bytes ≡ count) × (v ≡ with_write w path at bytes)
 
--- v is w after the child: it left alone what it must, and is the last of the runs
-abbrev pub IsRun : Child → Exit → World → World → Type 0
-IsRun child exit w v = Spared child w v × (v.runs ≡ w.runs ++ record { child = child; exit = exit } ∷ [])
+-- v is w after the child: it left what it may, and is the last of the runs
+abbrev pub IsRun : BootKind → Child → Exit → World → World → Type 0
+IsRun boot child exit w v =
+    Leaves child.class boot child w v
+    × (v.runs ≡ w.runs ++ record { child = child; exit = exit } ∷ [])
+    × Serves child.class boot child exit.ended w v
 
--- the world v after a call that began in w
-abbrev pub After : Call → End → World → World → Type 0
-After (Read path count) Done w v = v ≡ with_fetched w path count
-After (Write path at count) Done w v = ArbitraryWrite path at count w v
-After (Write path at count) Broken w v = (v ≡ w) ⊎ ArbitraryWrite path at count w v
-After (Sync path) Done w v = v ≡ with_sync w path
-After (Replace path bytes) Done w v = v ≡ with_file w path bytes
-After (Replace path bytes) Broken w v = (v ≡ w) ⊎ (v ≡ with_file w path bytes)
-After (Run child) Done w v = (exit : Exit) × IsRun child exit w v
-After (Run child) Broken w v = Spared child w v × (v.runs ≡ w.runs)
-After call end w v = v ≡ w
+-- the world v after a call that began in w, with this boot loader
+abbrev pub After : BootKind → Call → End → World → World → Type 0
+After boot (Read path count) Done w v = v ≡ with_fetched w path count
+After boot (Write path at count) Done w v = ArbitraryWrite path at count w v
+After boot (Write path at count) Broken w v = (v ≡ w) ⊎ ArbitraryWrite path at count w v
+After boot (Sync path) Done w v = v ≡ with_sync w path
+After boot (Replace path bytes) Done w v = v ≡ with_file w path bytes
+After boot (Replace path bytes) Broken w v = (v ≡ w) ⊎ (v ≡ with_file w path bytes)
+After boot (Run child) Done w v = (exit : Exit) × IsRun boot child exit w v
+After boot (Run child) Broken w v = Leaves child.class boot child w v × (v.runs ≡ w.runs)
+After boot call end w v = v ≡ w
 
 -- a world u in which the power may stop inside a call that began in w
-abbrev pub Inside : Call → World → World → Type 0
-Inside (Write path at count) w u = ArbitraryWrite path at count w u
-Inside (Replace path bytes) w u = (u ≡ w) ⊎ (u ≡ with_file w path bytes)
-Inside (Run child) w u = Spared child w u × (u.runs ≡ w.runs)
-Inside call w u = u ≡ w
+abbrev pub Inside : BootKind → Call → World → World → Type 0
+Inside boot (Write path at count) w u = ArbitraryWrite path at count w u
+Inside boot (Replace path bytes) w u = (u ≡ w) ⊎ (u ≡ with_file w path bytes)
+Inside boot (Run child) w u = Leaves child.class boot child w u × (u.runs ≡ w.runs)
+Inside boot call w u = u ≡ w
 
 pub record Moment : Type 0 where
   pub call : Call
@@ -101,13 +104,13 @@ abbrev pub Grows : Past → Past → Type 0
 Grows old new = new ≡ with_moments old (moments_since old new)
 
 -- u was the world at the start or after one of these moments, or inside one of their calls
-abbrev pub WorldAmong : World → List Moment → World → Type 0
-WorldAmong w [] u = u ≡ w
-WorldAmong w (m ∷ ms) u = (u ≡ w) ⊎ (Inside m.call w u ⊎ WorldAmong m.after ms u)
+abbrev pub WorldAmong : BootKind → World → List Moment → World → Type 0
+WorldAmong boot w [] u = u ≡ w
+WorldAmong boot w (m ∷ ms) u = (u ≡ w) ⊎ (Inside boot m.call w u ⊎ WorldAmong boot m.after ms u)
 
 -- u was the world at some moment since old, or inside a call made since
 abbrev pub WorldSince : Past → Past → World → Type 0
-WorldSince old new u = WorldAmong (world_now old) (moments_since old new) u
+WorldSince old new u = WorldAmong old.boot (world_now old) (moments_since old new) u
 
 -- a stop of the power since old may have left v
 abbrev pub Held : Past → Past → World → Type 0
@@ -121,7 +124,7 @@ pub record Always (old new : Past) (P : World → Type 0) : Type 0 where
 -- new is old and this call
 pub record IsCall (old new : Past) (call : Call) (end : End) : Type 0 where
   pub grows : new ≡ with_moments old (record { call = call; end = end; after = world_now new } ∷ [])
-  pub after : After call end (world_now old) (world_now new)
+  pub after : After old.boot call end (world_now old) (world_now new)
 
 -- a call that failed, and what is said where it did not
 abbrev pub failed_or : End → Fault → Option Fault → Option Fault

@@ -1,7 +1,6 @@
-ghost use Rattle.std.specs.Prelude.{◌≡◌, ◌+◌, ℕ, Bool, false, pos, length, IsTrue, IfOk};
+ghost use Rattle.std.specs.Prelude.{◌≡◌, ◌+◌, ℕ, Bool, pos, length, IsTrue, IfOk};
 ghost use Rattle.std.specs.Result.{result_unwrap_or};
 ghost use Rattle.machine.specs.World.{file, readable, length_under, with_write};
-ghost use Rattle.machine.specs.Spares.{is_boot};
 ghost use Rattle.machine.specs.Past.{Clock, Past, Read, Replace, Size, Sync, Write, world_now};
 ghost use Rattle.machine.specs.Calls.{Counted, Ends, FileCounted, FileEnds, WriteFits, IsKept, IsLong, ReadSome, ReadsFile, RunCounted, RunEnds};
 
@@ -34,8 +33,8 @@ pub enum RunStop {
 
 /// The calls through which the updater reaches the outside: each is one read, write, sync or
 /// replacement, the asking for a length, one child, or a look at the clock. A machine may tell its
-/// world and its past; what a call does to them, and the worlds in which the power may stop inside it,
-/// are its contract.
+/// world and its past, which names its boot loader; what a call does to them, and the worlds in which
+/// the power may stop inside it, are its contract.
 pub trait Machine {
     /// Whether it tells its world and its past. It is of the type, so nothing changes it.
     ghost tells: { Bool };
@@ -94,11 +93,12 @@ pub trait Machine {
         ensures counts { Counted (faults self.old) (faults self.new) (wants self.old) (wants self.new) result };
 
     /// Runs a program to its end, and keeps the first 65,536 bytes of what it puts out on each
-    /// stream; `cut` of its exit tells whether there was more. It leaves alone what it must spare.
+    /// stream; `cut` of its exit tells whether there was more. It leaves alone what it must spare. A
+    /// boot program leaves all but the boot variables alone, which it changes as its words say, wholly
+    /// or not at all; one that ended with 0 changed them wholly.
     /// `Failed` tells that it gave no end: it may have been started all the same, and killed in the
     /// middle, so what it need not spare may have changed; it does not stand in the runs.
     fn run(&mut self, alloc: Global, child: &Child) -> Result<Exit, RunStop>
-        requires { is_boot child.now.class ≡ false }
         ensures past { IsTrue tells → RunEnds (past self.old) (past self.new) child.now result }
         ensures counts { RunCounted (faults self.old) (faults self.new) (wants self.old) (wants self.new) result }
         ensures kept { IfOk result IsKept };

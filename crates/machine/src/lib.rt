@@ -7,6 +7,7 @@ mod copies;
 mod law;
 mod reads;
 mod stops;
+mod words;
 mod world;
 
 pub use calls::{CallStop, Machine, ReadStop, RunStop};
@@ -14,6 +15,7 @@ pub use copies::{TryClone, copy_bytes, copy_items};
 pub use law::held_joins;
 pub use reads::fill;
 pub use stops::{Fault, Stop};
+pub use words::words_of;
 pub use world::{
     Child, ChildClass, Ended, EnvVar, Exit, KEPT_OUTPUT, Named, RunNote, Span, Spares, World,
 };

@@ -1,7 +1,8 @@
 -- The answer to a call, from what was noted of it.
-use Rattle.std.proofs.Common.{◌≡◌, ℕ, Bool, true, false, List, [], ◌∷◌, ◌++◌, Option, Some, None, Result, Ok, Err, OnOk, OnErr, IfOk, refl, sym, ◌∙◌, ap, subst}
+use Rattle.std.proofs.Common.{◌≡◌, ℕ, Bool, true, false, List, Option, Some, None, Result, Ok, Err, OnOk, OnErr, IfOk, refl, sym, ◌∙◌, ap, subst}
 use Rattle.std.specs.Prelude.{ℤ, pos}
 use Rattle.std.specs.Result.{result_unwrap_or}
+use Rattle.boot_model.specs.declared.boot_kind.BootKind.{BootKind}
 use Rattle.machine.specs.declared.calls.CallStop.{CallStop}
 use Rattle.machine.specs.declared.calls.CallStop.TheVariants.{Failed, NoMemory}
 use Rattle.machine.specs.declared.calls.ReadStop.{ReadStop}
@@ -19,7 +20,8 @@ use Rattle.machine.specs.Calls.{Ends, FileEnds, ReadsFile, RunEnds}
 use Rattle.undo_log.specs.Whole.{WholeFound, end_whole}
 use Rattle.undo_log.specs.Logged.{SameLog, NotesCall, end_if, past_of_log}
 use Rattle.machine_bench.specs.Numbered.{IsAnswer}
-use Rattle.undo_log.proofs.Undoing.{did_noted, same_past, now-past_of}
+use Rattle.undo_log.proofs.Undoing.{boot-past_of, did_noted, same_past, now-past_of}
+use Rattle.machine_bench.proofs.Scripted.{Ran}
 
 same_ok : {T E : Type 0} (x y : T) → ◌≡◌ {A = Result T E} (Ok x) (Ok y) → x ≡ y
 same_ok x y e = cc
@@ -76,17 +78,17 @@ module _ (old new last : UndoLog) (fails : Bool) (faults faults' wants wants' : 
   settled_clock (Err e) (Err NoMemory) s done failed err = kept_now err
 
   -- the worlds of the two logs
-  runs_now : (child : Child) (exit : Exit) → new.world.runs ≡ old.world.runs ++ record { child = child; exit = exit } ∷ [] → (world_now (past_of_log last)).runs ≡ (world_now (past_of_log old)).runs ++ record { child = child; exit = exit } ∷ []
-  runs_now child exit h =
-      ap (λ (log : UndoLog). (world_now (past_of_log log)).runs) is_last
-      ∙ ap (λ (w : World). w.runs) (now-past_of new)
-      ∙ h
-      ∙ ap (λ (w : World). w.runs ++ record { child = child; exit = exit } ∷ []) (sym (now-past_of old))
+  ran_now : (child : Child) (exit : Exit) → Ran old.boot child old.world new.world exit → Ran (past_of_log old).boot child (world_now (past_of_log old)) (world_now (past_of_log last)) exit
+  ran_now child exit h =
+      subst (λ (u : World). Ran (past_of_log old).boot child (world_now (past_of_log old)) u exit) (sym (ap (λ (log : UndoLog). world_now (past_of_log log)) is_last ∙ now-past_of new))
+      (subst (λ (w : World). Ran (past_of_log old).boot child w new.world exit) (sym (now-past_of old))
+      (subst (λ (boot : BootKind). Ran boot child old.world new.world exit) (sym (boot-past_of old)) h))
 
   -- a child, whose end is known after it
-  pub settled_run : {E : Type 0} (child : Child) (noted : Result Exit E) (result : Result Exit CallStop) → IsAnswer noted fails faults faults' wants wants' result → OnOk noted (NotesCall old new (Run child) (end_if fails)) → (fails ≡ false → IfOk noted (λ exit. new.world.runs ≡ old.world.runs ++ record { child = child; exit = exit } ∷ [])) → OnErr noted (SameLog old new) → RunEnds (past_of_log old) (past_of_log last) child (run_answer result)
+  pub settled_run : {E : Type 0} (child : Child) (noted : Result Exit E) (result : Result Exit CallStop) → IsAnswer noted fails faults faults' wants wants' result → OnOk noted (NotesCall old new (Run child) (end_if fails)) → (fails ≡ false → IfOk noted (Ran old.boot child old.world new.world)) → OnErr noted (SameLog old new) → RunEnds (past_of_log old) (past_of_log last) child (run_answer result)
   settled_run child (Ok y) (Ok x) s ok ran err =
-      (ended (Run child) false s.1 ok, runs_now child x (subst (λ (exit : Exit). new.world.runs ≡ old.world.runs ++ record { child = child; exit = exit } ∷ []) (same_ok y x s.0) (ran s.1)))
+      let told = ran_now child x (subst (λ (exit : Exit). Ran old.boot child old.world new.world exit) (same_ok y x s.0) (ran s.1)) in
+      (ended (Run child) false s.1 ok, told.0, told.1)
   settled_run child (Ok y) (Err Failed) s ok ran err = ended (Run child) true s.1 ok
   settled_run child (Ok y) (Err NoMemory) s ok ran err = let bad : false ≡ true = s.0 in cc
   settled_run child (Err e) (Ok x) s ok ran err = let bad : Err e ≡ Ok x = s.0 in cc

@@ -14,7 +14,7 @@ use Rattle.machine.specs.declared.calls.RunStop.TheVariants as run
 use Rattle.machine_bench.specs.declared.bench.Bench.{Bench}
 use Rattle.machine_bench.specs.declared.setup.Setup.{Setup}
 use Rattle.undo_log.specs.Logged.{SameLog}
-use Rattle.machine_bench.specs.Scripts.{exit_of, after_script, script_for}
+use Rattle.machine_bench.specs.Scripts.{after_child, child_exit, script_for}
 
 -- the number is one of those that fail
 abbrev pub is_failing_number : List ℕ → ℕ → Bool
@@ -93,9 +93,11 @@ FileObeys old new (Err (read.TooLong n)) = OneCallMore old new false
 FileObeys old new (Err read.Failed) = OneCallMore old new true × (new.log.world ≡ old.log.world)
 FileObeys old new (Err read.NoMemory) = NoCallMore old new
 
--- the same of a child, which ends and changes the world by the first script that is for it
+-- the same of a child, which ends and changes the world by the first script that is for it, or as a boot program does
 abbrev pub RunObeys : Bench → Bench → Child → Result Exit RunStop → Type 0
 RunObeys old new child (Ok exit) =
-    OneCallMore old new false × (exit ≡ exit_of (script_for old.scripts child)) × (new.log.world ≡ after_script (script_for old.scripts child) child old.log.world)
+    OneCallMore old new false
+    × (exit ≡ child_exit (script_for old.scripts child) old.log.boot child old.log.world)
+    × (new.log.world ≡ after_child (script_for old.scripts child) old.log.boot child old.log.world)
 RunObeys old new child (Err run.Failed) = OneCallMore old new true × (new.log.world ≡ old.log.world)
 RunObeys old new child (Err run.NoMemory) = NoCallMore old new

@@ -1,4 +1,4 @@
-ghost use Rattle.std.specs.Prelude.{◌≡◌, ◌+◌, ◌↔◌, [], true, false, pos, length, vec_len, IsTrue, IsOk, IfOk, OnOk, OnErr, if◌then◌else◌};
+ghost use Rattle.std.specs.Prelude.{◌≡◌, ◌+◌, ◌↔◌, [], ◌∷◌, true, false, pos, length, vec_len, IsTrue, IsOk, IfOk, OnOk, OnErr, if◌then◌else◌};
 ghost use Rattle.std.specs.Result.{result_unwrap_or};
 ghost use Rattle.machine.specs.World.{HoldsUpTo, file, readable, length_under, with_write};
 ghost use Rattle.machine.specs.Spares.{is_boot};
@@ -6,10 +6,13 @@ ghost use Rattle.machine.specs.Past.{Clock, Read, Replace, Run, Size, Sync, Writ
 ghost use Rattle.machine.specs.Calls.{Counted, Ends, FileCounted, FileEnds, WriteFits, IsKept, IsLong, ReadSome, ReadsFile, RunCounted, RunEnds};
 ghost use Rattle.undo_log.specs.Logged.{past_of_log};
 
-use crate::scripts::{effects_of, exit_of, script_for};
+use crate::scripts::{boot_exit, effects_of, exit_of, script_for};
 use crate::setup::{Script, Setup};
 use boot_model::{BootKind, Vars};
-use machine::{CallStop, Child, Exit, Machine, Named, ReadStop, RunStop, TryClone, World};
+use boot_programs::{ProgramEnd, program};
+use machine::{
+    CallStop, Child, ChildClass, Exit, Machine, Named, ReadStop, RunStop, TryClone, World, words_of,
+};
 use std::alloc::Global;
 use undo_log::{NotedCall, UndoLog, Whole, has_room};
 use updater_text::{Items, NoMemory, Text};
@@ -23,7 +26,9 @@ use updater_text::{Items, NoMemory, Text};
 ///
 /// A child takes the first script of its program whose arguments are a front of the child's; one
 /// without a script ends with 127. What it must leave alone stays as it is, whatever its script says.
-/// Of each stream 65,536 bytes are kept.
+/// A boot program without a script does over the boot variables what its words say. One with a script
+/// ends and prints as that says; where that is status 0, it changes the variables as its words say,
+/// and else it leaves them. Of each stream 65,536 bytes are kept.
 ///
 /// It keeps what takes its calls back, and no copy of the world that it began with.
 #[derive(Drop)]
@@ -130,6 +135,7 @@ impl Bench {
     ghost use Rattle.machine.specs.Past.{Broken, Done, Run};
     ghost use Rattle.undo_log.specs.Logged.{SameLog, NotesCall, end_if};
     ghost use Rattle.undo_log.specs.Halves.{with_half_write};
+    ghost use Rattle.boot_programs.specs.Programs.{program};
     ghost use Rattle.machine_bench.specs.Scripts as scripts;
     ghost use Rattle.machine_bench.specs.Numbered.{SameBench, SameSetup, IsAnswer, fails_next, halves_next, is_failing_number};
 
@@ -203,8 +209,9 @@ impl Bench {
             .refuse(self.alloc, NotedCall::Write { path, at, count })
     }
 
-    // Runs a child by its script, or fails by its number.
-    fn run_noted(&mut self, alloc: Global, child: &Child, fails: bool) -> Result<Exit, NoMemory>
+    // Runs a child, which is no boot program, by its script, or fails by its number.
+    fn run_scripted(&mut self, alloc: Global, child: &Child, fails: bool) -> Result<Exit, NoMemory>
+        requires { is_boot child.now.class ≡ false }
         ensures ok { OnOk result (NotesCall self.old.log self.new.log (Run child.now) (end_if fails)) }
         ensures exit { IfOk result (λ exit. exit ≡ scripts.exit_of (scripts.script_for self.old.scripts child.now)) }
         ensures ran { fails ≡ false → OnOk result (self.new.log.world ≡ scripts.after_script (scripts.script_for self.old.scripts child.now) child.now self.old.log.world) }
@@ -218,6 +225,55 @@ impl Bench {
         self.log
             .run(alloc, child, &exit, effects_of(script), fails)?;
         Ok(exit)
+    }
+
+    // What a boot program does over the variables as they are.
+    fn program_end(&self, alloc: Global, child: &Child) -> Result<ProgramEnd, NoMemory>
+        ensures { IfOk result (λ end. end ≡ program self.now.log.boot (child.now.program ∷ child.now.args) self.now.log.world.vars) }
+    {
+        let words = words_of(alloc, child)?;
+        program(
+            alloc,
+            &self.log.boot,
+            words.as_slice(),
+            &self.log.world.vars,
+        )
+    }
+
+    // Runs a boot program by what it does, of which a script says how it ends and what it puts out, or
+    // fails by its number.
+    fn run_boot(&mut self, alloc: Global, child: &Child, fails: bool) -> Result<Exit, NoMemory>
+        requires { is_boot child.now.class ≡ true }
+        ensures ok { OnOk result (NotesCall self.old.log self.new.log (Run child.now) (end_if fails)) }
+        ensures exit { IfOk result (λ exit. exit ≡ scripts.child_exit (scripts.script_for self.old.scripts child.now) self.old.log.boot child.now self.old.log.world) }
+        ensures ran { fails ≡ false → OnOk result (self.new.log.world ≡ scripts.after_child (scripts.script_for self.old.scripts child.now) self.old.log.boot child.now self.old.log.world) }
+        ensures failed { fails ≡ true → self.new.log.world ≡ self.old.log.world }
+        ensures kept { IfOk result IsKept }
+        ensures err { OnErr result (SameLog self.old.log self.new.log) }
+        ensures same { SameBench self.old self.new }
+    {
+        let end = self.program_end(alloc, child)?;
+        let script = script_for(self.scripts.as_slice(), child);
+        let exit = boot_exit(alloc, script, &end)?;
+        self.log.run_boot(alloc, child, &exit, end.vars, fails)?;
+        Ok(exit)
+    }
+
+    // Runs a child, or fails by its number.
+    fn run_noted(&mut self, alloc: Global, child: &Child, fails: bool) -> Result<Exit, NoMemory>
+        ensures ok { OnOk result (NotesCall self.old.log self.new.log (Run child.now) (end_if fails)) }
+        ensures exit { IfOk result (λ exit. exit ≡ scripts.child_exit (scripts.script_for self.old.scripts child.now) self.old.log.boot child.now self.old.log.world) }
+        ensures ran { fails ≡ false → OnOk result (self.new.log.world ≡ scripts.after_child (scripts.script_for self.old.scripts child.now) self.old.log.boot child.now self.old.log.world) }
+        ensures failed { fails ≡ true → self.new.log.world ≡ self.old.log.world }
+        ensures kept { IfOk result IsKept }
+        ensures err { OnErr result (SameLog self.old.log self.new.log) }
+        ensures same { SameBench self.old self.new }
+    {
+        if child.class == ChildClass::Boot {
+            self.run_boot(alloc, child, fails)
+        } else {
+            self.run_scripted(alloc, child, fails)
+        }
     }
 }
 
@@ -316,7 +372,6 @@ impl Machine for Bench {
     }
 
     fn run(&mut self, alloc: Global, child: &Child) -> Result<Exit, RunStop>
-        requires { is_boot child.now.class ≡ false }
         ensures past { IsTrue true → RunEnds (past_of_log self.old.log) (past_of_log self.new.log) child.now result }
         ensures counts { RunCounted self.old.faults self.new.faults self.old.wants self.new.wants result }
         ensures kept { IfOk result IsKept }

@@ -1,9 +1,11 @@
-ghost use Rattle.std.specs.Prelude.{◌≡◌, take, IfOk};
+ghost use Rattle.std.specs.Prelude.{◌≡◌, [], take, IfOk};
 ghost use Rattle.std.specs.Option.{option_copied};
-ghost use Rattle.machine.specs.Calls.{kept_output};
+ghost use Rattle.machine.specs.Calls.{is_cut, kept_output};
+ghost use Rattle.machine.specs.declared.world.Ended.TheVariants.{Code};
 ghost use Rattle.machine_bench.specs.Scripts as spec;
 
 use crate::setup::Script;
+use boot_programs::ProgramEnd;
 use machine::{Child, Ended, Exit, KEPT_OUTPUT, copy_bytes};
 use std::alloc::Global;
 use undo_log::Effect;
@@ -66,6 +68,30 @@ pub fn exit_of(alloc: Global, script: Option<&Script>) -> Result<Exit, NoMemory>
         err,
         cut: script.out.len() > KEPT_OUTPUT || script.err.len() > KEPT_OUTPUT,
     })
+}
+
+// The end of a program that ends with this status and puts this out.
+fn program_exit(alloc: Global, code: u8, out: &[u8]) -> Result<Exit, NoMemory>
+    ensures { IfOk result (λ exit. exit ≡ record { ended = Code code; out = take kept_output out.now; err = []; cut = is_cut out.now }) }
+{
+    let cut = out.len() > KEPT_OUTPUT;
+    let out = front(alloc, out)?;
+    Ok(Exit {
+        ended: Ended::Code(code),
+        out,
+        err: Items::new(alloc),
+        cut,
+    })
+}
+
+/// The end of a boot program: by its script, or else as what it does.
+pub fn boot_exit(alloc: Global, script: Option<&Script>, end: &ProgramEnd) -> Result<Exit, NoMemory>
+    ensures exit { IfOk result (λ exit. exit ≡ spec.boot_exit (option_copied script.entry) end.now) }
+{
+    match script {
+        Some(script) => exit_of(alloc, Some(script)),
+        None => program_exit(alloc, end.code, end.out.as_slice()),
+    }
 }
 
 /// The effects of a child by its script.

@@ -4,7 +4,8 @@ use undo_log::Effect;
 use updater_text::{Items, Text};
 
 /// What a child does: one that runs `program` with arguments that begin with `args`. It puts `out`
-/// and `err` out on its two streams, has the effects in turn, and ends as `ended` says.
+/// and `err` out on its two streams, has the effects in turn, and ends as `ended` says. A boot program
+/// has no effects but on the boot variables.
 #[derive(Drop)]
 pub struct Script {
     pub program: Text,

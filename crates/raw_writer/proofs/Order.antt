@@ -139,17 +139,17 @@ module _ (t : Bool) (a b c : Past) (image device : List ℕ) (piece size k done 
   }
 
 -- a sync writes nothing
-sync_leaves : (w v : World) (device : List ℕ) (end : End) → After (Sync device) end w v → (v.writes ≡ w.writes) × (disk v device ≡ disk w device)
-sync_leaves w v device Done h = (ap (λ (x : World). x.writes) h ∙ (synced_leaves w device).2, ap (λ (x : World). disk x device) h ∙ (synced_leaves w device).0)
-sync_leaves w v device Broken h = (ap (λ (x : World). x.writes) h, ap (λ (x : World). disk x device) h)
-sync_leaves w v device Overlong h = (ap (λ (x : World). x.writes) h, ap (λ (x : World). disk x device) h)
+sync_leaves : (p : Past) (w v : World) (device : List ℕ) (end : End) → After p.boot (Sync device) end w v → (v.writes ≡ w.writes) × (disk v device ≡ disk w device)
+sync_leaves p w v device Done h = (ap (λ (x : World). x.writes) h ∙ (synced_leaves w device).2, ap (λ (x : World). disk x device) h ∙ (synced_leaves w device).0)
+sync_leaves p w v device Broken h = (ap (λ (x : World). x.writes) h, ap (λ (x : World). disk x device) h)
+sync_leaves p w v device Overlong h = (ap (λ (x : World). x.writes) h, ap (λ (x : World). disk x device) h)
 
 pub order_sync : {T : Type 0} (t : Bool) (spans : List Span) (a b c : Past) (device : List ℕ) (result : Result T CallStop) → WritesInOrder t spans a b → (IsTrue t → Ends b c (Sync device) result) → WritesInOrder t spans a c
 order_sync t spans a b c device result order ends = record {
   all = λ told.
       always_goes_on a b c (Sync device) (AddsInOrder spans (world_now a)) result (order.all told) (ends told)
       (λ u here h. subst (λ (x : World). AddsInOrder spans (world_now a) x) (sym h) here)
-      (λ end v here h. record { count = here.count; writes = (sync_leaves (world_now b) v device end h).0 ∙ here.writes });
+      (λ end v here h. record { count = here.count; writes = (sync_leaves b (world_now b) v device end h).0 ∙ here.writes });
 }
 
 pub copies_sync : {T : Type 0} (t : Bool) (image device : List ℕ) (piece size : ℕ) (a b c : Past) (result : Result T CallStop) → CopiesInOrder t image device piece size a b → (IsTrue t → Ends b c (Sync device) result) → CopiesInOrder t image device piece size a c
@@ -158,6 +158,6 @@ copies_sync t image device piece size a b c result copies ends = record {
       always_goes_on a b c (Sync device) (IsPartCopied image device piece size (world_now a)) result (copies.all told) (ends told)
       (λ u here h. subst (λ (x : World). IsPartCopied image device piece size (world_now a) x) (sym h) here)
       (λ end v here h.
-      let left = sync_leaves (world_now b) v device end h in
+      let left = sync_leaves b (world_now b) v device end h in
       record { done = here.done; any = here.any; enough = here.enough; one_piece = here.one_piece; within = here.within; front = left.1 ∙ here.front; writes = left.0 ∙ here.writes });
 }

@@ -29,10 +29,10 @@ once_reads t a b device at n reads = record {
   all = λ told. always_weaker a b (IsRead (world_now a)) (WritesAtMost device at n (world_now a)) (λ u h. record { is = inl h }) (reads.all told);
 }
 
-once_after : (u w v : World) (device : List ℕ) (at n : ℕ) (end : End) → IsRead u w → After (Write device at n) end w v → WritesAtMost device at n u v
-once_after u w v device at n Done read h = record { is = inr (w, read, h) }
-once_after u w v device at n Broken read h = record { is = ⊎_elim (λ e. inl (subst (λ (x : World). IsRead u x) (sym e) read)) (λ wrote. inr (w, read, wrote)) h }
-once_after u w v device at n Overlong read h = record { is = inl (subst (λ (x : World). IsRead u x) (sym h) read) }
+once_after : (p : Past) (u w v : World) (device : List ℕ) (at n : ℕ) (end : End) → IsRead u w → After p.boot (Write device at n) end w v → WritesAtMost device at n u v
+once_after p u w v device at n Done read h = record { is = inr (w, read, h) }
+once_after p u w v device at n Broken read h = record { is = ⊎_elim (λ e. inl (subst (λ (x : World). IsRead u x) (sym e) read)) (λ wrote. inr (w, read, wrote)) h }
+once_after p u w v device at n Overlong read h = record { is = inl (subst (λ (x : World). IsRead u x) (sym h) read) }
 
 pub once_write : {T : Type 0} (t : Bool) (a b c : Past) (device : List ℕ) (at m n : ℕ) (result : Result T CallStop) → m ≡ n → OnlyReads t a b → (IsTrue t → Ends b c (Write device at m) result) → OneWriteAtMost t device at n a c
 once_write t a b c device at m n result same reads ends =
@@ -41,7 +41,7 @@ once_write t a b c device at m n result same reads ends =
       all = λ told.
           let read = always_now a b (IsRead (world_now a)) (reads.all told) in
           always_joins a b c (WritesAtMost device at m (world_now a)) ((once_reads t a b device at m reads).all told)
-          (always_ends b c (Write device at m) (WritesAtMost device at m (world_now a)) result (ends told) (record { is = inl read }) (λ u h. record { is = inr (world_now b, read, h) }) (λ end v h. once_after (world_now a) (world_now b) v device at m end read h));
+          (always_ends b c (Write device at m) (WritesAtMost device at m (world_now a)) result (ends told) (record { is = inl read }) (λ u h. record { is = inr (world_now b, read, h) }) (λ end v h. once_after b (world_now a) (world_now b) v device at m end read h));
     })
 
 piece_short : (image into : List ℕ) (at found : ℕ) → found ≤ length into → take found into ≡ take found (drop at image) → length image ≤ at + found → at ≤ length image → at + found ≡ length image

@@ -1,24 +1,29 @@
 -- What children do: they leave alone what they must, and it is taken back.
-use Rattle.std.proofs.Common.{◌≡◌, ◌≢◌, ℕ, ◌+◌, ◌≤◌, Bool, true, false, not, cond, ◌||◌, List, [], ◌∷◌, ◌++◌, length, take, drop, Option, Some, None, refl, sym, ◌∙◌, ap, subst, arith}
+use Rattle.std.proofs.Common.{◌≡◌, ◌≢◌, ◌⊎◌, inl, inr, ⊎_elim, ℕ, ◌+◌, ◌==◌, ◌≤◌, Bool, true, false, not, cond, ◌||◌, List, [], ◌∷◌, ◌++◌, length, take, drop, Option, Some, None, refl, sym, ◌∙◌, ap, subst, arith}
 use Rattle.std.specs.Prelude.{bytes_eq, is_some, nat_eq, nat_le, unwrap_or}
 use Rattle.std.specs.Option.{option_map, option_map_or}
 use Rattle.std.specs.List.{starts_with}
 use Rattle.std.proofs.lemmas.Bool.{true≢false, leb-true}
+use Rattle.boot_model.specs.declared.boot_kind.BootKind.{BootKind}
+use Rattle.boot_model.specs.Vars.{Variables}
 use Rattle.machine.specs.declared.world.Named.{Named}
 use Rattle.machine.specs.declared.world.Span.{Span}
 use Rattle.machine.specs.declared.world.Child.{Child}
+use Rattle.machine.specs.declared.world.Ended.{Ended}
+use Rattle.machine.specs.declared.world.Ended.TheVariants.{Code, Signal}
 use Rattle.machine.specs.declared.world.Exit.{Exit}
 use Rattle.machine.specs.declared.world.World.{World}
 use Rattle.machine.specs.World.{bytes_under, disk, disk_length, with_file, with_write, HoldsUpTo}
-use Rattle.machine.specs.Spares.{Spared, spans_of, spares_disk, spares_file}
+use Rattle.machine.specs.Spares.{Spared, has_disk, is_boot, spans_of, spares_file}
+use Rattle.machine.specs.Leaves.{BootLeaves, program_vars}
 use Rattle.machine.specs.Past.{Run, Done, After, but_last}
 use Rattle.machine.proofs.Only.{bytes_of, disk-written_other, only_written}
-use Rattle.machine.proofs.Sparing.{bytes_under-filter, file-replaced_other, spared_refl, spared_trans}
+use Rattle.machine.proofs.Sparing.{boot_class_serves, boot_leaves, bytes_under-filter, file-replaced_other, others_serve, spared_leaves, spared_refl, spared_trans}
 use Rattle.machine.proofs.Worlds.{bytes_eq_other}
 use Rattle.undo_log.specs.declared.effect.Effect.{Effect}
 use Rattle.undo_log.specs.declared.effect.Effect.TheVariants.{PutFile, DropFiles, WriteDisk}
 use Rattle.undo_log.specs.declared.notes.Change.TheVariants as change
-use Rattle.undo_log.specs.Effects.{after_effects, after_disk_write, without_files, after_effect, after_file_put, has_room, keeps_file, with_run, with_child_write}
+use Rattle.undo_log.specs.Effects.{after_effects, after_disk_write, without_files, after_effect, after_file_put, has_room, keeps_file, vars_left, with_boot_run, with_run, with_child_write}
 use Rattle.undo_log.specs.Undo.{world_before}
 use Rattle.undo_log.proofs.Noting.{but_last-push, put_back, room_again}
 
@@ -94,9 +99,9 @@ spared_dropped child prefix w = record {
   vars = λ spares. refl;
 }
 
-module _ (child : Child) (path : List ℕ) (at : ℕ) (bytes : List ℕ) (w : World) (free : spares_disk child path ≡ false) where
-  other_path : (p : List ℕ) → spares_disk child p ≡ true → p ≢ path
-  other_path p spares same = true≢false (sym spares ∙ ap (λ q. spares_disk child q) same ∙ free)
+module _ (child : Child) (path : List ℕ) (at : ℕ) (bytes : List ℕ) (w : World) (free : has_disk child.spares path ≡ false) where
+  other_path : (p : List ℕ) → has_disk child.spares p ≡ true → p ≢ path
+  other_path p spares same = true≢false (sym spares ∙ ap (λ q. has_disk child.spares q) same ∙ free)
 
   same_disks : (p : List ℕ) → disk (with_child_write w path at bytes) p ≡ disk (with_write w path at bytes) p
   unfolding with_child_write with_write
@@ -116,10 +121,10 @@ module _ (child : Child) (path : List ℕ) (at : ℕ) (bytes : List ℕ) (w : Wo
 
 spared_disk : (child : Child) (path : List ℕ) (at : ℕ) (bytes : List ℕ) (w : World) → Spared child w (after_disk_write child path at bytes w)
 spared_disk child path at bytes w =
-    elim (spares_disk child path || not (has_room w path (at + length bytes))) as (λ b. (spares_disk child path || not (has_room w path (at + length bytes))) ≡ b → Spared child w (cond b w (with_child_write w path at bytes))) [
+    elim (has_disk child.spares path || not (has_room w path (at + length bytes))) as (λ b. (has_disk child.spares path || not (has_room w path (at + length bytes))) ≡ b → Spared child w (cond b w (with_child_write w path at bytes))) [
       | true ↦ λ e. spared_refl child w
       | false ↦ λ e.
-          let both = neither (spares_disk child path) (not (has_room w path (at + length bytes))) e in
+          let both = neither (has_disk child.spares path) (not (has_room w path (at + length bytes))) e in
           spared_touched child path at bytes w both.0 (holds_is w path (at + length bytes) (not_false (has_room w path (at + length bytes)) both.1))
     ] refl
 
@@ -142,7 +147,7 @@ runs_put child path bytes w =
 runs_disk : (child : Child) (path : List ℕ) (at : ℕ) (bytes : List ℕ) (w : World) → (after_disk_write child path at bytes w).runs ≡ w.runs
 unfolding with_child_write
 runs_disk child path at bytes w =
-    elim (spares_disk child path || not (has_room w path (at + length bytes))) as (λ b. (cond b w (with_child_write w path at bytes)).runs ≡ w.runs) [ true ↦ refl | false ↦ refl ]
+    elim (has_disk child.spares path || not (has_room w path (at + length bytes))) as (λ b. (cond b w (with_child_write w path at bytes)).runs ≡ w.runs) [ true ↦ refl | false ↦ refl ]
 
 runs_effect : (child : Child) (e : Effect) (w : World) → (after_effect child e w).runs ≡ w.runs
 unfolding without_files
@@ -174,12 +179,47 @@ runs_noted child exit w = refl
 pub runs_ran : (child : Child) (exit : Exit) (es : List Effect) (w : World) → (after_effects child es (with_run w child exit)).runs ≡ w.runs ++ record { child = child; exit = exit } ∷ []
 runs_ran child exit es w = runs_effects child es (with_run w child exit) ∙ runs_noted child exit w
 
-pub after_ran : (child : Child) (exit : Exit) (es : List Effect) (w v : World) → v ≡ after_effects child es (with_run w child exit) → After (Run child) Done w v
-after_ran child exit es w v is = subst (λ (u : World). After (Run child) Done w u) (sym is) (
+pub after_ran : (boot : BootKind) (child : Child) (exit : Exit) (es : List Effect) (w v : World) → is_boot child.class ≡ false → v ≡ after_effects child es (with_run w child exit) → After boot (Run child) Done w v
+after_ran boot child exit es w v none is = subst (λ (u : World). After boot (Run child) Done w u) (sym is) (
   exit,
   (
-    spared_trans child w (with_run w child exit) (after_effects child es (with_run w child exit)) (spared_noted child exit w) (spared_effects child es (with_run w child exit)),
+    spared_leaves child.class boot child w (after_effects child es (with_run w child exit)) none
+        (spared_trans child w (with_run w child exit) (after_effects child es (with_run w child exit)) (spared_noted child exit w) (spared_effects child es (with_run w child exit))),
     runs_ran child exit es w,
+    others_serve child.class boot child exit.ended w (after_effects child es (with_run w child exit)) none,
+  ),
+)
+
+-- a boot program that was run
+vars_either : (ended : Ended) (new old : Variables) → (vars_left ended new old ≡ old) ⊎ (vars_left ended new old ≡ new)
+vars_either (Code code) new old = elim (code == 0) as (λ b. (cond b new old ≡ old) ⊎ (cond b new old ≡ new)) [ true ↦ inr refl | false ↦ inl refl ]
+vars_either Signal new old = inl refl
+
+vars_served : (ended : Ended) (new old : Variables) → ended ≡ Code 0 → vars_left ended new old ≡ new
+vars_served ended new old is = ap (λ (e : Ended). vars_left e new old) is
+
+boot_ran : (boot : BootKind) (child : Child) (exit : Exit) (new : Variables) (w : World) → new ≡ program_vars boot child w.vars → BootLeaves boot child w (with_boot_run w child exit new)
+unfolding with_boot_run
+boot_ran boot child exit new w are = record {
+  rest = refl;
+  vars = ⊎_elim (λ e. inl e) (λ e. inr (e ∙ are)) (vars_either exit.ended new w.vars);
+}
+
+pub boot_serves : (boot : BootKind) (child : Child) (exit : Exit) (new : Variables) (w : World) → new ≡ program_vars boot child w.vars → exit.ended ≡ Code 0 → (with_boot_run w child exit new).vars ≡ program_vars boot child w.vars
+unfolding with_boot_run
+boot_serves boot child exit new w are is = vars_served exit.ended new w.vars is ∙ are
+
+pub boot_runs : (child : Child) (exit : Exit) (new : Variables) (w : World) → (with_boot_run w child exit new).runs ≡ w.runs ++ record { child = child; exit = exit } ∷ []
+unfolding with_boot_run
+boot_runs child exit new w = refl
+
+pub after_boot_ran : (boot : BootKind) (child : Child) (exit : Exit) (new : Variables) (w v : World) → is_boot child.class ≡ true → new ≡ program_vars boot child w.vars → v ≡ with_boot_run w child exit new → After boot (Run child) Done w v
+after_boot_ran boot child exit new w v class are is = subst (λ (u : World). After boot (Run child) Done w u) (sym is) (
+  exit,
+  (
+    boot_leaves child.class boot child w (with_boot_run w child exit new) class (boot_ran boot child exit new w are),
+    boot_runs child exit new w,
+    boot_class_serves child.class boot child exit.ended w (with_boot_run w child exit new) class (boot_serves boot child exit new w are),
   ),
 )
 

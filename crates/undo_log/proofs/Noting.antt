@@ -202,7 +202,7 @@ noted_replace old new path bytes made boot back left grows = record {
 }
 
 -- a child
-pub noted_child : (old new : UndoLog) (child said : Child) (changes : List Change) → new.boot ≡ old.boot → said ≡ child → world_before_all changes new.world ≡ old.world → After (Run child) Done old.world new.world → new.notes.items ≡ old.notes.items ++ record { call = noted.Run said; end = noted_end.Done; changes = changes } ∷ [] → NotesCall old new (Run child) Done
+pub noted_child : (old new : UndoLog) (child said : Child) (changes : List Change) → new.boot ≡ old.boot → said ≡ child → world_before_all changes new.world ≡ old.world → After old.boot (Run child) Done old.world new.world → new.notes.items ≡ old.notes.items ++ record { call = noted.Run said; end = noted_end.Done; changes = changes } ∷ [] → NotesCall old new (Run child) Done
 noted_child old new child said changes boot same back after grows = record {
   note = record { call = noted.Run said; end = noted_end.Done; changes = changes };
   grows = grows;

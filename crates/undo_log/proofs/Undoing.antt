@@ -4,9 +4,9 @@ use Rattle.std.proofs.lemmas.List.{reverse-append}
 use Rattle.boot_model.specs.declared.boot_kind.BootKind.{BootKind}
 use Rattle.machine.specs.declared.world.World.{World}
 use Rattle.machine.specs.Past.{Call, File, Size, Read, Write, Sync, Replace, Run, Clock, End, Broken, After, world_now, with_moments, IsCall}
-use Rattle.machine.specs.Spares.{Spared}
+use Rattle.machine.specs.Leaves.{Leaves}
 use Rattle.machine.proofs.Moments.{now-more}
-use Rattle.machine.proofs.Sparing.{spared_refl}
+use Rattle.machine.proofs.Sparing.{leaves_refl}
 use Rattle.undo_log.specs.declared.notes.Change.{Change}
 use Rattle.undo_log.specs.declared.notes.Note.{Note}
 use Rattle.undo_log.specs.declared.log.UndoLog.{UndoLog}
@@ -23,6 +23,14 @@ now-back : (boot : BootKind) (w : World) (ns : List Note) → world_now (past_fr
 now-back boot w [] = refl
 now-back boot w (n ∷ older) = now-more (past_from_newest boot (world_before_all n.changes w) older) (moment_of n w ∷ [])
 
+-- and tells the boot loader that it was given
+boot-back : (boot : BootKind) (w : World) (ns : List Note) → (past_from_newest boot w ns).boot ≡ boot
+boot-back boot w [] = refl
+boot-back boot w (n ∷ older) = boot-back boot (world_before_all n.changes w) older
+
+pub boot-past_of : (log : UndoLog) → (past_of_log log).boot ≡ log.boot
+boot-past_of log = boot-back log.boot log.world (reverse log.notes.items)
+
 pub now-past_of : (log : UndoLog) → world_now (past_of_log log) ≡ log.world
 now-past_of log = now-back log.boot log.world (reverse log.notes.items)
 
@@ -34,21 +42,22 @@ module _ (boot : BootKind) (w w' : World) (notes : List Note) (n : Note) (back :
       ∙ ap (λ (u : World). with_moments (past_from_newest boot u (reverse notes)) (moment_of n w' ∷ [])) back
 
   -- what the trait asks of a call
-  did_note : After (past_call n.call) (past_end n.end) w w' → IsCall (past_of boot w notes) (past_of boot w' (notes ++ n ∷ [])) (past_call n.call) (past_end n.end)
+  did_note : After boot (past_call n.call) (past_end n.end) w w' → IsCall (past_of boot w notes) (past_of boot w' (notes ++ n ∷ [])) (past_call n.call) (past_end n.end)
   did_note after =
       let here = now-back boot w' (reverse (notes ++ n ∷ [])) in
       record {
         grows = past_of-push
             ∙ ap (λ (u : World). with_moments (past_of boot w notes) (moment_of n u ∷ [])) (sym here);
-        after = subst (λ (u : World). After (past_call n.call) (past_end n.end) u (world_now (past_of boot w' (notes ++ n ∷ [])))) (sym (now-back boot w (reverse notes)))
-            (subst (λ (u : World). After (past_call n.call) (past_end n.end) w u) (sym here) after);
+        after = subst (λ (k : BootKind). After k (past_call n.call) (past_end n.end) (world_now (past_of boot w notes)) (world_now (past_of boot w' (notes ++ n ∷ [])))) (sym (boot-back boot w (reverse notes)))
+            (subst (λ (u : World). After boot (past_call n.call) (past_end n.end) u (world_now (past_of boot w' (notes ++ n ∷ [])))) (sym (now-back boot w (reverse notes)))
+            (subst (λ (u : World). After boot (past_call n.call) (past_end n.end) w u) (sym here) after));
       }
 
 -- a call that was noted
 pub did_noted : (old new : UndoLog) (call : Call) (end : End) → NotesCall old new call end → IsCall (past_of_log old) (past_of_log new) call end
 did_noted old new call end h =
-    let after = subst (λ (k : Call). After k (past_end h.note.end) old.world new.world) (sym h.call_is)
-    (subst (λ (e : End). After call e old.world new.world) (sym h.end_is) h.after) in
+    let after = subst (λ (k : Call). After old.boot k (past_end h.note.end) old.world new.world) (sym h.call_is)
+    (subst (λ (e : End). After old.boot call e old.world new.world) (sym h.end_is) h.after) in
     subst (λ (boot : BootKind). IsCall (past_of_log old) (past_of boot new.world new.notes.items) call end) (sym h.boot)
     (subst (λ (ns : List Note). IsCall (past_of_log old) (past_of old.boot new.world ns) call end) (sym h.grows)
     (subst (λ (k : Call). IsCall (past_of_log old) (past_of old.boot new.world (old.notes.items ++ h.note ∷ [])) k end) h.call_is
@@ -63,12 +72,12 @@ same_past old new h =
     ∙ ap (λ (ns : List Note). past_of old.boot old.world ns) h.notes
 
 -- a call that failed and did nothing
-pub broken_same : (call : Call) (w v : World) → v ≡ w → After call Broken w v
-broken_same (File path) w v e = e
-broken_same (Size path) w v e = e
-broken_same (Read path count) w v e = e
-broken_same (Write path at count) w v e = inl e
-broken_same (Sync path) w v e = e
-broken_same (Replace path bytes) w v e = inl e
-broken_same (Run child) w v e = (subst (λ (u : World). Spared child w u) (sym e) (spared_refl child w), ap (λ (u : World). u.runs) e)
-broken_same (Clock seconds) w v e = e
+pub broken_same : (boot : BootKind) (call : Call) (w v : World) → v ≡ w → After boot call Broken w v
+broken_same boot (File path) w v e = e
+broken_same boot (Size path) w v e = e
+broken_same boot (Read path count) w v e = e
+broken_same boot (Write path at count) w v e = inl e
+broken_same boot (Sync path) w v e = e
+broken_same boot (Replace path bytes) w v e = inl e
+broken_same boot (Run child) w v e = (subst (λ (u : World). Leaves child.class boot child w u) (sym e) (leaves_refl child.class boot child w), ap (λ (u : World). u.runs) e)
+broken_same boot (Clock seconds) w v e = e

@@ -24,7 +24,7 @@ pub record NotesCall (old new : UndoLog) (call : Call) (end : End) : Type 0 wher
   pub call_is : past_call note.call ≡ call
   pub end_is : past_end note.end ≡ end
   pub back : world_before_all note.changes new.world ≡ old.world
-  pub after : After call end old.world new.world
+  pub after : After old.boot call end old.world new.world
 
 -- new is old and a write of these bytes, noted with this end
 pub record NotesWrite (old new : UndoLog) (path : List ℕ) (at : ℕ) (bytes : List ℕ) (end : NotedEnd) : Type 0 where

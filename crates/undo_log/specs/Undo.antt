@@ -77,6 +77,7 @@ world_before (change.Synced pending) w = record w { pending = pending }
 world_before (change.Put path replaced) w = record w { files = files_before_put w.files path replaced }
 world_before (change.Dropped places stays) w = record w { files = with_files_at stays places w.files }
 world_before change.Ran w = record w { runs = but_last w.runs }
+world_before (change.Varied vars) w = record w { vars = vars }
 
 -- the world before a change, if there was one
 abbrev pub world_before_if : Option Change → World → World

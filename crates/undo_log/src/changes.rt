@@ -364,6 +364,7 @@ fn undo(world: &mut World, change: Change)
         Change::Ran => {
             let _ = world.runs.pop();
         }
+        Change::Varied { vars } => world.vars = vars,
     }
 }
 

@@ -1,7 +1,7 @@
 ghost use Rattle.std.specs.Prelude.{◌≡◌, ◌≤◌, ◌<◌, ◌+◌, ◌++◌, [], ◌∷◌, length, map, vec_len, bytes_eq, codes, filter, IfOk, OnOk, OnErr};
 ghost use Rattle.std.specs.Vec.{vec_capacity};
 ghost use Rattle.std.specs.List.{list_any};
-ghost use Rattle.machine.specs.Spares.{is_boot};
+ghost use Rattle.machine.specs.Spares.{has_disk};
 ghost use Rattle.machine.specs.Spares as machine_spec;
 ghost use Rattle.updater_text.specs.Paths.{is_within};
 ghost use Rattle.undo_log.specs.Effects.{after_effect};
@@ -12,19 +12,14 @@ use crate::changes::{child_write_change, put_change, take_back};
 use crate::effect::Effect;
 use crate::lookup::{bytes_of, has_room};
 use crate::notes::Change;
-use machine::{Child, ChildClass, Exit, Named, RunNote, TryClone, World};
+use boot_model::Vars;
+use machine::{Child, Ended, Exit, Named, RunNote, TryClone, World};
 use std::alloc::Global;
 use std::mem;
 use updater_text::{Items, NoMemory, Text, is_within};
 
 /// The file of the kernel's words, which every child leaves alone.
 const KERNEL_WORDS: &str = "/proc/cmdline";
-
-fn is_boot(class: ChildClass) -> bool
-    ensures { result ≡ is_boot class }
-{
-    class == ChildClass::Boot
-}
 
 // Whether the path is among these.
 fn is_among(paths: &[Text], path: &str) -> bool
@@ -42,16 +37,16 @@ fn lies_in(places: &[Text], path: &str) -> bool
 
 // Whether the child must leave the disk alone.
 fn spares_disk(child: &Child, path: &str) -> bool
-    ensures { result ≡ machine_spec.spares_disk child.now path.now }
+    ensures { result ≡ has_disk child.now.spares path.now }
 {
-    is_boot(child.class) || is_among(child.spares.disks.as_slice(), path)
+    is_among(child.spares.disks.as_slice(), path)
 }
 
 // Whether the child must leave the file alone.
 fn spares_file(child: &Child, path: &str) -> bool
     ensures { result ≡ machine_spec.spares_file child.now path.now }
 {
-    path == KERNEL_WORDS || is_boot(child.class) || lies_in(child.spares.files.as_slice(), path)
+    path == KERNEL_WORDS || lies_in(child.spares.files.as_slice(), path)
 }
 
 // Whether a file stays where those are dropped whose path begins so.
@@ -274,4 +269,27 @@ pub fn run(
     push_run(alloc, &mut world.runs, child, exit)?;
     changes.push_reserved(Change::Ran);
     do_all_or_none(alloc, world, child, effects, changes)
+}
+
+/// Adds a boot program to the runs, and gives the boot variables these values where it ended with 0.
+#[tactic(auto, unfolding(crate::specs::Effects::with_boot_run))]
+pub fn run_boot(
+    alloc: Global,
+    world: &mut World,
+    child: &Child,
+    exit: &Exit,
+    vars: Vars,
+) -> Result<Items<Change>, NoMemory>
+    ensures ok { OnOk result (world.new ≡ spec.with_boot_run world.old child.now exit.now vars) }
+    ensures back { IfOk result (λ changes. world_before_all changes world.new ≡ world.old) }
+    ensures err { OnErr result (world.new ≡ world.old) }
+{
+    let mut changes = Vec::with_capacity(alloc, 2)?;
+    push_run(alloc, &mut world.runs, child, exit)?;
+    changes.push_reserved(Change::Ran);
+    if exit.ended == Ended::Code(0) {
+        let vars = mem::replace(&mut world.vars, vars);
+        changes.push_reserved(Change::Varied { vars });
+    }
+    Ok(Items::from_vec(changes))
 }

@@ -3,7 +3,9 @@ ghost use Rattle.std.specs.Vec.{vec_capacity};
 ghost use Rattle.machine.specs.World.{HoldsUpTo, file, readable, length_under, with_write};
 ghost use Rattle.machine.specs.Past.{Broken, Clock, Done, File, Read, Replace, Run, Size, Sync, Write};
 ghost use Rattle.machine.specs.Calls.{IsLong, ReadSome};
-ghost use Rattle.undo_log.specs.Effects.{after_effects, with_run};
+ghost use Rattle.machine.specs.Leaves.{program_vars};
+ghost use Rattle.machine.specs.Spares.{is_boot};
+ghost use Rattle.undo_log.specs.Effects.{after_effects, with_boot_run, with_run};
 ghost use Rattle.undo_log.specs.Logged.{end_if};
 ghost use Rattle.undo_log.specs.Undo.{past_call, past_end, changes_of_read};
 ghost use Rattle.undo_log.specs.Whole.{WholeFound, end_whole};
@@ -13,7 +15,7 @@ use crate::effect::Effect;
 use crate::effects;
 use crate::lookup::{bytes_of, bytes_read, copy_at, count_at, size_under, whole_file};
 use crate::notes::{Change, Note, NotedCall, NotedEnd, Whole};
-use boot_model::BootKind;
+use boot_model::{BootKind, Vars};
 use machine::{Child, Exit, Span, TryClone, World, copy_bytes};
 use std::alloc::Global;
 use std::mem;
@@ -359,7 +361,7 @@ impl UndoLog {
         Ok(())
     }
 
-    /// The run of a child that ends so, with these effects.
+    /// The run of a child, which is no boot program, that ends so, with these effects.
     pub fn run(
         &mut self,
         alloc: Global,
@@ -368,6 +370,7 @@ impl UndoLog {
         effects: &[Effect],
         fails: bool,
     ) -> Result<(), NoMemory>
+        requires { is_boot child.now.class ≡ false }
         ensures ok { OnOk result (NotesCall self.old self.new (Run child.now) (end_if fails)) }
         ensures ran { fails ≡ false → OnOk result (self.new.world ≡ after_effects child.now effects.now (with_run self.old.world child.now exit.now)) }
         ensures failed { fails ≡ true → self.new.world ≡ self.old.world }
@@ -388,6 +391,7 @@ impl UndoLog {
         exit: &Exit,
         effects: &[Effect],
     ) -> Result<(), NoMemory>
+        requires { is_boot child.now.class ≡ false }
         ensures ok { OnOk result (NotesCall self.old self.new (Run child.now) Done) }
         ensures ran { OnOk result (self.new.world ≡ after_effects child.now effects.now (with_run self.old.world child.now exit.now)) }
         ensures err { OnErr result (SameLog self.old self.new) }
@@ -395,6 +399,52 @@ impl UndoLog {
         self.notes.reserve(1)?;
         let child_copy = child.try_clone(alloc)?;
         let changes = effects::run(alloc, &mut self.world, child, exit, effects)?;
+        let child = child_copy;
+        self.push_note(NotedCall::Run { child }, NotedEnd::Done, changes);
+        Ok(())
+    }
+
+    /// The run of a boot program that ends so. These are the variables that it makes of those of the
+    /// world, and it leaves them where it ends with 0.
+    pub fn run_boot(
+        &mut self,
+        alloc: Global,
+        child: &Child,
+        exit: &Exit,
+        vars: Vars,
+        fails: bool,
+    ) -> Result<(), NoMemory>
+        requires class { is_boot child.now.class ≡ true }
+        requires vars { vars ≡ program_vars self.old.boot child.now self.old.world.vars }
+        ensures ok { OnOk result (NotesCall self.old self.new (Run child.now) (end_if fails)) }
+        ensures ran { fails ≡ false → OnOk result (self.new.world ≡ with_boot_run self.old.world child.now exit.now vars) }
+        ensures failed { fails ≡ true → self.new.world ≡ self.old.world }
+        ensures err { OnErr result (SameLog self.old self.new) }
+    {
+        if fails {
+            let child = child.try_clone(alloc)?;
+            return self.refuse(alloc, NotedCall::Run { child });
+        }
+        self.run_program(alloc, child, exit, vars)
+    }
+
+    // The run of a boot program that is done.
+    fn run_program(
+        &mut self,
+        alloc: Global,
+        child: &Child,
+        exit: &Exit,
+        vars: Vars,
+    ) -> Result<(), NoMemory>
+        requires class { is_boot child.now.class ≡ true }
+        requires vars { vars ≡ program_vars self.old.boot child.now self.old.world.vars }
+        ensures ok { OnOk result (NotesCall self.old self.new (Run child.now) Done) }
+        ensures ran { OnOk result (self.new.world ≡ with_boot_run self.old.world child.now exit.now vars) }
+        ensures err { OnErr result (SameLog self.old self.new) }
+    {
+        self.notes.reserve(1)?;
+        let child_copy = child.try_clone(alloc)?;
+        let changes = effects::run_boot(alloc, &mut self.world, child, exit, vars)?;
         let child = child_copy;
         self.push_note(NotedCall::Run { child }, NotedEnd::Done, changes);
         Ok(())

@@ -1,3 +1,4 @@
+use boot_model::Vars;
 use machine::{Child, Named, Span};
 use updater_text::{Items, Text};
 
@@ -59,6 +60,10 @@ pub enum Change {
     },
     /// A child was noted as the last run.
     Ran,
+    /// The boot variables were these before.
+    Varied {
+        vars: Vars,
+    },
 }
 
 /// A call, and the changes that it made.

@@ -18,12 +18,12 @@ pub returns-in-Ok-clause-past : goal.returns-in-Ok-clause-past
 returns-in-Ok-clause-past c = λ told.
     run_ended c.args.self.now.log c.settle.new.self.log c.args.child.now c.settle.result _ c.in-Ok.is
     (settled_run _ _ _ _ _ _ _ _ c.settle.ensures.log c.args.child.now c.run_noted-noted.result c.settle.result c.settle.ensures.answer c.run_noted-noted.ensures.ok
-    (runs_by _ c.run_noted-noted.result (script_for c.args.self.now.scripts c.args.child.now) c.args.child.now _ _ c.run_noted-noted.ensures.ran c.run_noted-noted.ensures.exit)
+    (runs_by _ c.run_noted-noted.result (script_for c.args.self.now.scripts c.args.child.now) _ c.args.child.now _ _ c.run_noted-noted.ensures.ran c.run_noted-noted.ensures.exit)
     c.run_noted-noted.ensures.err)
 
 pub returns-in-Err-Failed-clause-past : goal.returns-in-Err-Failed-clause-past
 returns-in-Err-Failed-clause-past c = λ told.
     run_ended c.args.self.now.log c.settle.new.self.log c.args.child.now c.settle.result _ (c.in-Err-Failed.is ∙ ap (λ (stop : CallStop). Err stop) c.in-Err-Failed.field-0-is)
     (settled_run _ _ _ _ _ _ _ _ c.settle.ensures.log c.args.child.now c.run_noted-noted.result c.settle.result c.settle.ensures.answer c.run_noted-noted.ensures.ok
-    (runs_by _ c.run_noted-noted.result (script_for c.args.self.now.scripts c.args.child.now) c.args.child.now _ _ c.run_noted-noted.ensures.ran c.run_noted-noted.ensures.exit)
+    (runs_by _ c.run_noted-noted.result (script_for c.args.self.now.scripts c.args.child.now) _ c.args.child.now _ _ c.run_noted-noted.ensures.ran c.run_noted-noted.ensures.exit)
     c.run_noted-noted.ensures.err)

@@ -1,6 +1,6 @@
 use Rattle.std.specs.Option.{option_copied}
 use Rattle.machine_bench.proofs.Scripted.{is_kept}
-use Rattle.machine_bench.proofs.bench.Bench.run_noted.Goals as goal
+use Rattle.machine_bench.proofs.bench.Bench.run_scripted.Goals as goal
 
 pub returns-clause-kept : goal.returns-clause-kept
 returns-clause-kept c = is_kept c.in_ok-exit.exit (option_copied c.script_for-script.result) c.in_ok-exit.ensures.exit
