@@ -4,7 +4,7 @@ pub mod CustomMarks
 pub mod EfiMarks
 pub mod EfiNumbers
 pub mod GrubMarks
-mod Lookups
+pub mod Lookups
 pub mod Marks
 pub mod UbootMarks
 pub mod Values

@@ -6,7 +6,8 @@ use crate::variable::count_in;
 use boot_model::Vars;
 use updater_text::Text;
 
-fn priority_of(vars: &Vars, name: &[u8]) -> u64
+/// The priority of a name; one that is missing or no number counts as 0. It takes no memory.
+pub fn priority_of(vars: &Vars, name: &[u8]) -> u64
     ensures { result ≡ spec.priority_of vars.now name.now }
 {
     count_in(vars, b"bootstate.", name, b".priority")

@@ -39,8 +39,8 @@ fn label_of<'a>(vars: &'a Vars, number: &[u8]) -> Option<&'a [u8]>
     Some(label.as_bytes())
 }
 
-// Whether the entry with this number has the name as its label.
-fn is_number_of(vars: &Vars, name: &[u8], number: &[u8]) -> bool
+/// Whether the entry with this number has the name as its label. It takes no memory.
+pub fn is_number_of(vars: &Vars, name: &[u8], number: &[u8]) -> bool
     ensures { result ≡ spec.is_number_of vars.now name.now number.now }
 {
     match label_of(vars, number) {

@@ -1,9 +1,9 @@
 //! What the variables of a boot loader mean: which names it may boot, and which one it boots next.
 #![tactic(auto)]
 
-mod barebox;
+pub mod barebox;
 mod custom;
-mod efi;
+pub mod efi;
 mod grub;
 mod named;
 mod order;
@@ -12,4 +12,5 @@ mod uboot;
 mod variable;
 
 pub use efi::is_entry_number;
+pub use named::has_name;
 pub use state::{good_of, primary_of};
