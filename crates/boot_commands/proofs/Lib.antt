@@ -1,0 +1,3 @@
+pub mod NewWords
+pub mod Numbers
+pub mod Splits

@@ -1,7 +1,8 @@
-ghost use Rattle.std.specs.Prelude.{◌≡◌, ◌∷◌, ◌++◌, [], IfOk, OnOk, codes, map};
+ghost use Rattle.std.specs.Prelude.{◌≡◌, ◌∷◌, ◌++◌, [], IfOk, codes, map};
 ghost use Rattle.boot_programs.specs.Settings.{spelled};
 ghost use Rattle.boot_commands.specs.Commands as spec;
 
+use crate::lists::push_two;
 use crate::{Command, Setting};
 use std::alloc::Global;
 use updater_text::{Items, NoMemory, Text};
@@ -99,27 +100,14 @@ fn state_words(alloc: Global, state: &Option<Text>) -> Result<Items<Text>, NoMem
     }
 }
 
-// Puts an option and the word that belongs to it at the end.
-fn push_behind(
-    words: &mut Items<Text>,
-    alloc: Global,
-    option: &str,
-    word: Text,
-) -> Result<(), NoMemory>
-    ensures { OnOk result (words.new ≡ words.old ++ option.now ∷ word ∷ []) }
-{
-    let option = Text::new(alloc, option)?;
-    words.push(option)?;
-    words.push(word)
-}
-
 fn print_words(alloc: Global, state: &Option<Text>, names: &[Text]) -> Result<Items<Text>, NoMemory>
     ensures { IfOk result (λ words. words ≡ spec.state_words state.now ++ spec.behind_each (codes "-g") names.now) }
 {
     let mut words = state_words(alloc, state)?;
     for name in names {
+        let option = Text::new(alloc, "-g")?;
         let name = name.copy(alloc)?;
-        push_behind(&mut words, alloc, "-g", name)?;
+        push_two(&mut words, option, name)?;
     }
     Ok(words)
 }
@@ -133,8 +121,9 @@ fn store_words(
 {
     let mut words = state_words(alloc, state)?;
     for setting in settings {
+        let option = Text::new(alloc, "-s")?;
         let word = spelled(alloc, setting)?;
-        push_behind(&mut words, alloc, "-s", word)?;
+        push_two(&mut words, option, word)?;
     }
     Ok(words)
 }
