@@ -143,7 +143,7 @@ number_uncut number is =
     let parts = and_parts (eqb (length number) 4) (list_all is_hex_digit number) is in
     (ap (λ (k : ℕ). eqb k 0) (eqb-true (length number) 4 parts.0), digits_no_comma number parts.1)
 
-is_number_there : (vars : Variables) (name number : List ℕ) → is_number_of vars name number ≡ true → is_number number ≡ true
+pub is_number_there : (vars : Variables) (name number : List ℕ) → is_number_of vars name number ≡ true → is_number number ≡ true
 is_number_there vars name number =
     elim (is_number number) as (λ b. option_map_or (λ label. bytes_eq label name) (cond b (value vars (entry_name number)) None) false ≡ true → b ≡ true) [
       | true ↦ λ h. refl
@@ -153,7 +153,7 @@ is_number_there vars name number =
 first_uncut : (vars : Variables) (name first : List ℕ) → is_number_of vars name first ≡ true → AreUncut is_comma (first ∷ rest_of vars name)
 first_uncut vars name first is = (number_uncut first (is_number_there vars name first is), rest_uncut vars name)
 
-first_is : (vars : Variables) (name : List ℕ) → OnFirst (λ first. is_number_of vars name first ≡ true) (numbers_of vars name)
+pub first_is : (vars : Variables) (name : List ℕ) → OnFirst (λ first. is_number_of vars name first ≡ true) (numbers_of vars name)
 first_is vars name = first_filtered (is_number_of vars name) (filter_map number_in (fin.keys vars))
 
 -- ---- the name itself
@@ -214,6 +214,17 @@ primary_next name vars after h = primary_next_with name vars (numbers_of vars na
 
 abbrev pub Keeps : List ℕ → Variables → Variables → Type 0
 Keeps name v w = (is_down v name ≡ true → is_down w name ≡ true) × (is_good v name ≡ true → is_good w name ≡ true)
+
+-- without a next boot
+pub no_next_keeps : (name : List ℕ) (vars : Variables) → Keeps name vars (fin.remove vars next_name)
+no_next_keeps name vars =
+    let w = fin.remove vars next_name in
+    let alike = remove_alike vars in
+    let good = good_alike name vars w alike (order_same vars w (value-remove_other vars next_name order_name (λ s. next_not_order (sym s)))) in
+    let next = next_alike name vars w alike ∙ ap (λ (o : Option (List ℕ)). option_map_or (is_number_of vars name) o false) (value-remove_same vars next_name) in (
+      (λ down. down_from w name next (good ∙ (down_parts vars name down).1)),
+      (λ some. good ∙ some),
+    )
 
 module _ (name other : List ℕ) (vars : Variables) (ne : other ≢ name) where
   rest_none : is_good vars other ≡ false → list_any (is_number_of vars other) (rest_of vars name) ≡ false

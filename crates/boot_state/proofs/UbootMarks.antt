@@ -33,7 +33,7 @@ kept_by name v w left order = (
 )
 
 module _ (text name other : List ℕ) (vars : Variables) (ne : other ≢ name) where
-  attempts_keep : Keeps other vars (with_attempts text name vars)
+  pub attempts_keep : Keeps other vars (with_attempts text name vars)
   attempts_keep =
       kept_by other vars (with_attempts text name vars) (value-insert_other vars (left_name name) text (left_name other) (left_differs other name ne))
       (λ h. ap (λ (o : Option (List ℕ)). has_word (words_between is_blank (unwrap_or o [])) other) (value-insert_other vars (left_name name) text order_name (λ e. left_not_order name (sym e))) ∙ h)

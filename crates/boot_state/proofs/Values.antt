@@ -31,7 +31,7 @@ value-insert_same vars name text = value-insert vars name text name ∙ ap (λ (
 pub value-insert_other : (vars : Variables) (name text q : List ℕ) → q ≢ name → value (fin.insert vars name text) q ≡ value vars q
 value-insert_other vars name text q other = value-insert vars name text q ∙ ap (λ (b : Bool). cond b (Some text) (value vars q)) (bytes_eq_other q name other)
 
-value-remove : (vars : Variables) (name q : List ℕ) → value (fin.remove vars name) q ≡ cond (bytes_eq q name) None (value vars q)
+pub value-remove : (vars : Variables) (name q : List ℕ) → value (fin.remove vars name) q ≡ cond (bytes_eq q name) None (value vars q)
 value-remove vars name q = get-remove nat_list_cmp_total vars name q ∙ ap (λ (b : Bool). cond b None (value vars q)) (is_eq-slice_cmp q name)
 
 pub value-remove_same : (vars : Variables) (name : List ℕ) → value (fin.remove vars name) name ≡ None
