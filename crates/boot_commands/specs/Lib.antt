@@ -6,3 +6,4 @@ pub mod Barebox
 pub mod Efi
 pub mod Custom
 pub mod Plans
+pub mod Effects
