@@ -8,9 +8,9 @@ use Rattle.boot_model.specs.Vars.{Variables}
 use Rattle.boot_model.specs.declared.boot_kind.BootKind.{BootKind}
 use Rattle.boot_model.specs.declared.boot_kind.BootKind.TheVariants as boot
 use Rattle.boot_state.specs.Efi.{is_good, is_next, next_name, rest_of}
-use Rattle.boot_state.specs.Orders.{digit_of, has_word, joined, value, without_word, words_at}
+use Rattle.boot_state.specs.Orders.{digit_of, has_word, joined, value, without_word}
 use Rattle.boot_state.specs.States.{KeepsName}
-use Rattle.boot_state.specs.Uboot.{left_name, order_name, with_attempts}
+use Rattle.boot_state.specs.Uboot.{left_name, order_of, with_attempts}
 use Rattle.boot_state.proofs.EfiMarks.{no_next_keeps}
 use Rattle.boot_state.proofs.Marks.{bad_keeps, good_keeps, primary_keeps}
 use Rattle.boot_state.proofs.UbootMarks.{attempts_keep}
@@ -55,15 +55,15 @@ module _ (names : List (List ℕ)) (name other : List ℕ) (vars : Variables) (n
           stays_good = parts.1;
         }
 
-    uboot_between : (mark : Mark) → Between (KeepsName (boot.Uboot attempts primary_attempts) names other vars) (boot.Uboot attempts primary_attempts) (uboot.plan attempts primary_attempts names mark name (words_at vars order_name)) vars
+    uboot_between : (mark : Mark) → Between (KeepsName (boot.Uboot attempts primary_attempts) names other vars) (boot.Uboot attempts primary_attempts) (uboot.plan attempts primary_attempts names mark name vars) vars
     uboot_between Bad =
-        let order = words_at vars order_name in
+        let order = order_of vars in
         elim (has_word order name) as (λ b. Between (KeepsName (boot.Uboot attempts primary_attempts) names other vars) (boot.Uboot attempts primary_attempts) (StoreVariable (left_name name) (codes "0") ∷ cond b (uboot.write_order (without_word order name) ∷ []) []) vars) [
           | true ↦ left_between (codes "0")
           | false ↦ tt
         ]
     uboot_between Good =
-        let order = words_at vars order_name in
+        let order = order_of vars in
         elim (has_word order name) as (λ b. Between (KeepsName (boot.Uboot attempts primary_attempts) names other vars) (boot.Uboot attempts primary_attempts) (StoreVariable (left_name name) (digit_of attempts) ∷ cond b [] (uboot.write_order (order ++ name ∷ []) ∷ [])) vars) [
           | true ↦ tt
           | false ↦ left_between (digit_of attempts)

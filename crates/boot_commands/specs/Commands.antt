@@ -19,6 +19,14 @@ abbrev pub state_words : Option (List ℕ) → List (List ℕ)
 state_words None = []
 state_words (Some state) = codes "-n" ∷ state ∷ []
 
+-- what `barebox-state` is asked for
+abbrev pub print_words : Option (List ℕ) → List (List ℕ) → List (List ℕ)
+print_words state names = state_words state ++ behind_each (codes "-g") names
+
+-- what it is to set
+abbrev pub store_words : Option (List ℕ) → List Setting → List (List ℕ)
+store_words state settings = state_words state ++ behind_each (codes "-s") (spellings settings)
+
 -- the name of the program
 abbrev pub program_of : Command → List ℕ
 program_of (command.ListVariables file) = codes "grub-editenv"
@@ -43,8 +51,8 @@ arguments_of (command.ListVariables file) = file ∷ codes "list" ∷ []
 arguments_of (command.SetVariables file settings) = file ∷ codes "set" ∷ spellings settings
 arguments_of (command.PrintVariable name) = name ∷ []
 arguments_of (command.StoreVariable name text) = name ∷ text ∷ []
-arguments_of (command.PrintState state names) = state_words state ++ behind_each (codes "-g") names
-arguments_of (command.StoreState state settings) = state_words state ++ behind_each (codes "-s") (spellings settings)
+arguments_of (command.PrintState state names) = print_words state names
+arguments_of (command.StoreState state settings) = store_words state settings
 arguments_of command.ListEntries = []
 arguments_of (command.SetNext number) = codes "-n" ∷ number ∷ []
 arguments_of command.RemoveNext = codes "-N" ∷ []

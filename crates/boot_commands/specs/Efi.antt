@@ -1,9 +1,9 @@
 -- EFI: which commands a mark takes.
-use Rattle.std.specs.Prelude.{ℕ, Bool, true, false, List, [], ◌∷◌, ◌++◌, is_some, slice_get, Option, if◌then◌else◌}
+use Rattle.std.specs.Prelude.{ℕ, Bool, true, false, List, [], ◌∷◌, ◌++◌, filter, is_some, not, slice_get, Option, if◌then◌else◌}
 use Rattle.std.specs.Option.{option_map, option_map_or}
 use Rattle.std.specs.Str.{bytes_eq}
 use Rattle.boot_model.specs.Vars.{Variables}
-use Rattle.boot_state.specs.Efi.{is_good, is_next, next_name, numbers_of, order_name, rest_of}
+use Rattle.boot_state.specs.Efi.{is_good, is_next, is_number_of, next_name, numbers_of, order_name, rest_of}
 use Rattle.boot_state.specs.Orders.{joined, value}
 use Rattle.boot_commands.specs.declared.command.Command.{Command}
 use Rattle.boot_commands.specs.declared.command.Command.TheVariants.{ListEntries, RemoveNext, RemoveOrder, SetNext, SetOrder}
@@ -22,6 +22,10 @@ first_number vars name = slice_get (numbers_of vars name) 0
 abbrev pub write_order : List ℕ → Command
 write_order [] = RemoveOrder
 write_order (byte ∷ more) = SetOrder (byte ∷ more)
+
+-- those of some numbers that are none of the name
+abbrev pub others_in : Variables → List ℕ → List (List ℕ) → List (List ℕ)
+others_in vars name numbers = filter (λ number. not (is_number_of vars name number)) numbers
 
 -- a number, and behind it those of the order that are none of the name
 abbrev pub led_order : List ℕ → List ℕ → Variables → List ℕ

@@ -3,8 +3,6 @@ use Rattle.std.specs.Prelude.{ℕ, ◌≤◌, List, [], Option, Some}
 use Rattle.boot_model.specs.Vars.{Variables}
 use Rattle.boot_model.specs.declared.boot_kind.BootKind.{BootKind}
 use Rattle.boot_model.specs.declared.boot_kind.BootKind.TheVariants as boot
-use Rattle.boot_state.specs.Orders.{words_at}
-use Rattle.boot_state.specs.Uboot.{order_name}
 use Rattle.boot_commands.specs.Barebox as barebox
 use Rattle.boot_commands.specs.Custom as custom
 use Rattle.boot_commands.specs.Efi as efi
@@ -25,7 +23,7 @@ looks boot.Noop names mark = []
 -- what is written then, by the variables that were read; none where there is no such name to the boot loader
 abbrev pub plan : BootKind → List (List ℕ) → Mark → List ℕ → Variables → Option (List Command)
 plan (boot.Grub file) names mark name vars = Some (grub.plan file names mark name vars)
-plan (boot.Uboot attempts primary_attempts) names mark name vars = Some (uboot.plan attempts primary_attempts names mark name (words_at vars order_name))
+plan (boot.Uboot attempts primary_attempts) names mark name vars = Some (uboot.plan attempts primary_attempts names mark name vars)
 plan (boot.Barebox state attempts primary_attempts) names mark name vars = Some (barebox.plan state attempts primary_attempts names mark name vars)
 plan (boot.Efi use_next) names mark name vars = efi.plan use_next mark name vars
 plan (boot.Custom program) names mark name vars = Some (custom.plan program mark name)

@@ -1,7 +1,8 @@
 -- U-Boot: which commands a mark takes.
 use Rattle.std.specs.Prelude.{ℕ, List, [], ◌∷◌, ◌++◌, codes, map, if◌then◌else◌}
+use Rattle.boot_model.specs.Vars.{Variables}
 use Rattle.boot_state.specs.Orders.{digit_of, has_word, joined, others, without_word}
-use Rattle.boot_state.specs.Uboot.{left_name, order_name}
+use Rattle.boot_state.specs.Uboot.{left_name, order_name, order_of}
 use Rattle.boot_commands.specs.declared.command.Command.{Command}
 use Rattle.boot_commands.specs.declared.command.Command.TheVariants.{PrintVariable, StoreVariable}
 use Rattle.boot_commands.specs.declared.command.Mark.{Mark}
@@ -34,7 +35,7 @@ abbrev pub primary_plan : ℕ → List (List ℕ) → List ℕ → List (List �
 primary_plan attempts names name order = StoreVariable (left_name name) (digit_of attempts) ∷ write_order (name ∷ others names name order) ∷ []
 
 -- by the words of the order
-abbrev pub plan : ℕ → ℕ → List (List ℕ) → Mark → List ℕ → List (List ℕ) → List Command
-plan attempts primary_attempts names Bad name order = bad_plan name order
-plan attempts primary_attempts names Good name order = good_plan attempts name order
-plan attempts primary_attempts names Primary name order = primary_plan primary_attempts names name order
+abbrev pub plan : ℕ → ℕ → List (List ℕ) → Mark → List ℕ → Variables → List Command
+plan attempts primary_attempts names Bad name vars = bad_plan name (order_of vars)
+plan attempts primary_attempts names Good name vars = good_plan attempts name (order_of vars)
+plan attempts primary_attempts names Primary name vars = primary_plan primary_attempts names name (order_of vars)

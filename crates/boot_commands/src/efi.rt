@@ -1,4 +1,4 @@
-ghost use Rattle.std.specs.Prelude.{◌≡◌, ◌==◌, ◌++◌, IfOk, OnOk, filter, is_some, not, slice_get};
+ghost use Rattle.std.specs.Prelude.{◌≡◌, ◌++◌, IfOk, OnOk};
 ghost use Rattle.std.specs.Option.{option_copied};
 ghost use Rattle.boot_state.specs.Efi as state;
 ghost use Rattle.boot_state.specs.Orders.{joined};
@@ -196,7 +196,7 @@ fn push_rest(
     read: &Vars,
     order: &[Text],
 ) -> Result<(), NoMemory>
-    ensures { OnOk result (numbers.new ≡ numbers.old ++ filter (λ number. not (state.is_number_of read.now name.now number)) order.now) }
+    ensures { OnOk result (numbers.new ≡ numbers.old ++ spec.others_in read.now name.now order.now) }
 {
     for number in order {
         if !is_number_of(read, name.as_bytes(), number.as_bytes()) {

@@ -25,7 +25,7 @@ pub fn looks_of(
 }
 
 /// What is written then to mark a name, by the variables that were read; None exactly where EFI has
-/// no entry with this name.
+/// no entry with this name. Each count of attempts of the boot loader has to be one digit.
 pub fn plan_of(
     alloc: Global,
     kind: &BootKind,

@@ -1,9 +1,8 @@
-ghost use Rattle.std.specs.Prelude.{◌≡◌, ◌≤◌, ◌∷◌, [], IfOk};
-ghost use Rattle.boot_state.specs.Orders.{words_at};
-ghost use Rattle.boot_state.specs.Uboot.{left_name, order_name};
+ghost use Rattle.std.specs.Prelude.{◌≡◌, ◌≤◌, IfOk};
+ghost use Rattle.boot_state.specs.Uboot.{left_name};
 ghost use Rattle.boot_commands.specs.Uboot as spec;
 
-use crate::lists::one;
+use crate::lists::{one, two};
 use crate::order::{order_text, put_first, without_word, words_at};
 use crate::texts::{digit, joined_text};
 use crate::{Command, Mark};
@@ -51,7 +50,7 @@ pub fn plan(
 ) -> Result<Items<Command>, NoMemory>
     requires usual { attempts ≤ 9 }
     requires primary { primary_attempts ≤ 9 }
-    ensures { IfOk result (λ commands. commands ≡ spec.plan attempts primary_attempts names.now mark name.now (words_at read.now order_name)) }
+    ensures { IfOk result (λ commands. commands ≡ spec.plan attempts primary_attempts names.now mark name.now read.now) }
 {
     let order = words_at(alloc, read, "BOOT_ORDER")?;
     match mark {
@@ -64,8 +63,9 @@ pub fn plan(
 fn bad_plan(alloc: Global, name: &str, order: &[Text]) -> Result<Items<Command>, NoMemory>
     ensures { IfOk result (λ commands. commands ≡ spec.bad_plan name.now order.now) }
 {
-    let attempts = Text::new(alloc, "0")?;
-    let mut commands = store_attempts(alloc, name, attempts)?;
+    let none = Text::new(alloc, "0")?;
+    let attempts = store_attempts(alloc, name, none)?;
+    let mut commands = one(alloc, attempts)?;
     if has_name(order, name.as_bytes()) {
         let rest = without_word(alloc, order, name)?;
         let command = write_order(alloc, rest.as_slice())?;
@@ -83,8 +83,9 @@ fn good_plan(
     requires { attempts ≤ 9 }
     ensures { IfOk result (λ commands. commands ≡ spec.good_plan attempts name.now order) }
 {
-    let attempts = digit(alloc, attempts)?;
-    let mut commands = store_attempts(alloc, name, attempts)?;
+    let count = digit(alloc, attempts)?;
+    let attempts = store_attempts(alloc, name, count)?;
+    let mut commands = one(alloc, attempts)?;
     if !has_name(order.as_slice(), name.as_bytes()) {
         let last = Text::new(alloc, name)?;
         order.push(last)?;
@@ -104,20 +105,18 @@ fn primary_plan(
     requires { attempts ≤ 9 }
     ensures { IfOk result (λ commands. commands ≡ spec.primary_plan attempts names.now name.now order.now) }
 {
-    let attempts = digit(alloc, attempts)?;
-    let order = put_first(alloc, names, name, order)?;
-    let command = write_order(alloc, order.as_slice())?;
-    let mut commands = store_attempts(alloc, name, attempts)?;
-    commands.push(command)?;
-    Ok(commands)
+    let count = digit(alloc, attempts)?;
+    let words = put_first(alloc, names, name, order)?;
+    let attempts = store_attempts(alloc, name, count)?;
+    let order = write_order(alloc, words.as_slice())?;
+    two(alloc, attempts, order)
 }
 
-fn store_attempts(alloc: Global, name: &str, attempts: Text) -> Result<Items<Command>, NoMemory>
-    ensures { IfOk result (λ commands. commands ≡ Command.StoreVariable (left_name name.now) attempts ∷ []) }
+fn store_attempts(alloc: Global, name: &str, value: Text) -> Result<Command, NoMemory>
+    ensures { IfOk result (λ command. command ≡ Command.StoreVariable (left_name name.now) value) }
 {
     let name = joined_text(alloc, "BOOT_", name, "_LEFT")?;
-    let value = attempts;
-    one(alloc, Command::StoreVariable { name, value })
+    Ok(Command::StoreVariable { name, value })
 }
 
 fn write_order(alloc: Global, words: &[Text]) -> Result<Command, NoMemory>

@@ -1,4 +1,4 @@
-ghost use Rattle.std.specs.Prelude.{◌≡◌, ◌∷◌, ◌++◌, [], IfOk, codes, map};
+ghost use Rattle.std.specs.Prelude.{◌≡◌, ◌∷◌, IfOk, codes, map};
 ghost use Rattle.boot_programs.specs.Settings.{spelled};
 ghost use Rattle.boot_commands.specs.Commands as spec;
 
@@ -101,7 +101,7 @@ fn state_words(alloc: Global, state: &Option<Text>) -> Result<Items<Text>, NoMem
 }
 
 fn print_words(alloc: Global, state: &Option<Text>, names: &[Text]) -> Result<Items<Text>, NoMemory>
-    ensures { IfOk result (λ words. words ≡ spec.state_words state.now ++ spec.behind_each (codes "-g") names.now) }
+    ensures { IfOk result (λ words. words ≡ spec.print_words state.now names.now) }
 {
     let mut words = state_words(alloc, state)?;
     for name in names {
@@ -117,7 +117,7 @@ fn store_words(
     state: &Option<Text>,
     settings: &[Setting],
 ) -> Result<Items<Text>, NoMemory>
-    ensures { IfOk result (λ words. words ≡ spec.state_words state.now ++ spec.behind_each (codes "-s") (spec.spellings settings.now)) }
+    ensures { IfOk result (λ words. words ≡ spec.store_words state.now settings.now) }
 {
     let mut words = state_words(alloc, state)?;
     for setting in settings {

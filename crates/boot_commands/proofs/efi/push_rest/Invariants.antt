@@ -1,10 +1,7 @@
-use Rattle.std.proofs.Common.{◌≡◌, ◌++◌, drop, not}
-use Rattle.std.specs.Prelude.{filter}
-use Rattle.boot_state.specs.Efi.{is_number_of}
+use Rattle.std.proofs.Common.{◌≡◌, ◌++◌, drop}
+use Rattle.boot_commands.specs.Efi.{others_in}
 use Rattle.boot_commands.proofs.efi.push_rest.Given as goal
 
 -- what is there and what is left make the whole
 abbrev pub invariant-loop-number : goal.invariant-loop-number
-invariant-loop-number l =
-    l.numbers ++ filter (λ number. not (is_number_of l.read l.name number)) (drop l.number-index l.order)
-    ≡ l.initial.numbers ++ filter (λ number. not (is_number_of l.read l.name number)) l.order
+invariant-loop-number l = l.numbers ++ others_in l.read l.name (drop l.number-index l.order) ≡ l.initial.numbers ++ others_in l.read l.name l.order
