@@ -411,7 +411,8 @@ static NOOP_REFUSED: [Words; 5] = [
     &["/sbin/backend", "get-primary"],
 ];
 
-fn words_of(alloc: Global, words: &[&str]) -> Result<Items<Text>, NoMemory> {
+/// These words, owned.
+pub fn words_of(alloc: Global, words: &[&str]) -> Result<Items<Text>, NoMemory> {
     let mut texts = Items::new(alloc);
     for word in words {
         let text = Text::new(alloc, word)?;

@@ -277,7 +277,8 @@ static NOOP: [Row; 2] = [
     ),
 ];
 
-fn vars_of(alloc: Global, text: &str) -> Result<Vars, NoMemory> {
+/// Variables, one a line.
+pub fn vars_of(alloc: Global, text: &str) -> Result<Vars, NoMemory> {
     let mut vars = Vars::new(alloc);
     for line in text.split('\n') {
         if let Some((name, value)) = line.split_once('=') {
