@@ -1,0 +1,12 @@
+pub mod Fronts
+pub mod Lines
+pub mod EfiBytes
+pub mod Gathered
+pub mod PrintedLines
+pub mod GrubTells
+pub mod UbootTells
+pub mod BareboxTells
+pub mod CustomTells
+pub mod EfiLines
+pub mod EfiTells
+pub mod Tells

@@ -1,0 +1,9 @@
+pub mod Texts
+pub mod Grub
+pub mod Uboot
+pub mod Barebox
+pub mod Efi
+pub mod Custom
+pub mod Outputs
+pub mod Plain
+pub mod Saw
