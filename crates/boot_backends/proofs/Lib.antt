@@ -1,0 +1,9 @@
+pub mod Judging
+pub mod Loop
+pub mod Worlds
+pub mod Names
+pub mod Truth
+pub mod Because
+pub mod Callers
+pub mod PrimarySlot
+pub mod AnyLoader

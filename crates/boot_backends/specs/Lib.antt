@@ -1,0 +1,7 @@
+pub mod Runs
+pub mod Ends
+pub mod Causes
+pub mod Through
+pub mod Honest
+pub mod Marked
+pub mod Systems

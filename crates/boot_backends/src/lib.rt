@@ -1,0 +1,11 @@
+//! Marks names and reads the variables of a boot loader, by its own programs.
+#![tactic(auto)]
+
+mod marks;
+mod reading;
+mod refusal;
+mod runs;
+
+pub use marks::{make_primary, mark_bad, mark_good};
+pub use reading::{primary, read_vars};
+pub use refusal::BootRefusal;
