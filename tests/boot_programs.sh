@@ -1,15 +1,16 @@
 #!/bin/sh
 # Runs the same commands by the boot loaders' own programs, over plain files, and by their model
-# (boot_session). What they print, how they end and which variables they leave has to be the same, but
-# for the differences that docs/DECISIONS.md names: of these each side has to be exactly as named. Needs
-# a POSIX shell, coreutils, sed, awk and gzip; a program that is not installed is skipped by name. Its
-# last line counts the cases.
+# (boot_session); and so for the backend that docs/boot/custom.md has. What they print, how they end and
+# which variables they leave has to be the same, but for the differences that docs/DECISIONS.md names: of
+# these each side has to be exactly as named. Needs a POSIX shell, coreutils, sed, awk and gzip; a program
+# that is not installed is skipped by name. Its last line counts the cases.
 # Use: tests/boot_programs.sh [MODEL]. Without a program it has make and rt build one first.
 set -u
 check=boot_programs
 built=boot_session
 . "$(dirname "$0")/lib/program.sh"
 . tests/lib/real_files.sh
+. ../../tests/lib/boot_pages.sh
 tab=$(printf '\t')
 
 # ---- sessions: the same commands for both, on variables that are none at first
@@ -104,14 +105,6 @@ variable() { printf '\t%s\t%s' "$1" "$2"; }
 
 refused='status 1, bytes 0'
 ended_well='status 0, bytes 0'
-
-# is_there PROGRAM PACKAGE
-is_there() {
-  command -v "$1" > /dev/null || {
-    echo "skipped: $1, since it is missing (Debian's package $2 has it)"
-    return 1
-  }
-}
 
 # ---- GRUB
 
@@ -666,6 +659,82 @@ $(variable Boot0000 A)" "$ended_well
 $(variable Boot0000 A)"
 }
 
+# ---- a backend of the system's own: the one in docs/boot/custom.md
+
+empty_custom() { rm -f systems; }
+give_custom() { printf '%s=%s\n' "$1" "$2" >> systems; }
+run_custom() { "$@"; }
+list_custom() { cat systems; }
+
+custom_sessions() {
+  begin custom ./backend
+  does ./backend get-primary
+  does ./backend get-state A
+  does ./backend set-state A bad
+  does ./backend get-state A
+  does ./backend get-state B
+  does ./backend set-primary A
+  does ./backend get-primary
+  does ./backend get-state A
+  does ./backend set-state A bad
+  does ./backend get-primary
+  does ./backend set-state A good
+  does ./backend get-primary
+  agrees 'states and the primary name'
+
+  begin custom ./backend
+  given primary A
+  given state.A good
+  given state.C bad
+  does ./backend get-primary
+  does ./backend get-state A
+  does ./backend get-state B
+  # B is marked bad, good, and made primary; then A is marked bad, and good.
+  does ./backend set-state B bad
+  does ./backend get-state B
+  does ./backend set-state B good
+  does ./backend get-state B
+  does ./backend set-primary B
+  does ./backend get-primary
+  does ./backend set-state A bad
+  does ./backend get-state A
+  does ./backend set-state A good
+  does ./backend get-state C
+  agrees 'marks of A and B'
+
+  begin custom ./backend
+  for name in -n '#' "it's" '\' '$(touch touched)' '*' a/b state.A primary; do
+    does ./backend set-state "$name" bad
+    does ./backend set-primary "$name"
+    does ./backend get-state "$name"
+    does ./backend get-primary
+  done
+  does ./backend get-state '?'
+  agrees 'names of all kinds'
+  if [ -e touched ]; then fail 'custom: a name was run as a command'; else pass; fi
+
+  begin custom ./backend
+  given primary A
+  does ./backend
+  does ./backend get-state
+  does ./backend get-primary A
+  does ./backend set-state A
+  does ./backend set-primary A B
+  does ./backend set-state A bad B
+  does ./backend frobnicate A
+  does ./backend ''
+  agrees 'words that are refused'
+
+  # The old file stays where the new one cannot be written.
+  begin custom ./backend
+  given primary A
+  mkdir systems.new
+  if ./backend set-primary B 2> err; then fail 'custom: a write that cannot be done ends well'; else pass; fi
+  rmdir systems.new
+  does ./backend get-primary
+  agrees 'a write that cannot be done'
+}
+
 # ---- the programs that are here
 
 if is_there grub-editenv grub-common; then grub_sessions; fi
@@ -686,6 +755,11 @@ if is_there efibootmgr efibootmgr; then
     echo "skipped: efibootmgr, since it takes no folder for the variables here"
   fi
 fi
+
+script_of custom.md sh | sed "s|^file=.*|file=$scratch/systems|" > backend
+chmod 755 backend
+if sh -n backend && grep -q '^file=' backend; then pass; else fail 'the backend of docs/boot/custom.md'; fi
+custom_sessions
 
 echo "skipped: barebox-state, since it needs a device tree with a state, and the storage that this names"
 
