@@ -1,5 +1,5 @@
 //! Runs commands of a boot loader's programs by their model, one after another, and prints how each ended
-//! and the variables at the end. There are no variables at the begin.
+//! and the variables at the end. There are no variables at the start.
 //!
 //! Use: `boot_session [FILE]`; without a file it reads standard input. The words of a line have a tab
 //! between each two. The first line names the boot loader: `grub` and its environment block, `custom` and
