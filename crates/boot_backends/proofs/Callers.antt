@@ -1,5 +1,5 @@
 -- What callers get of a mark and of a reading.
-use Rattle.std.proofs.Common.{◌≡◌, ◌≢◌, inl, inr, ℕ, true, List, [], ◌++◌, Option, Some, Result, Ok, Err, IsTrue, sym, ◌∙◌, ap, subst}
+use Rattle.std.proofs.Common.{◌≡◌, ◌≢◌, inl, inr, ℕ, true, List, [], ◌++◌, Option, Some, Result, Ok, Err, IsTrue, refl, sym, ◌∙◌, ap, subst}
 use Rattle.std.specs.Prelude.{⊤, IfOk, OnOk, option_and_then, position, unwrap_or}
 use Rattle.std.specs.FinMap as fin
 use Rattle.std.specs.List.{list_all}
@@ -22,7 +22,7 @@ use Rattle.machine.specs.declared.world.World.{World}
 use Rattle.machine.specs.Crash.{Crash, is_in}
 use Rattle.machine.specs.World.{disk_byte, disk_length}
 use Rattle.machine.specs.Past.{Always, Grows, Held, Past, world_now}
-use Rattle.machine.proofs.Moments.{always_weaker, held_of}
+use Rattle.machine.proofs.Moments.{always_weaker, held_of, was_now}
 use Rattle.boot_backends.specs.declared.refusal.BootRefusal.{BootRefusal}
 use Rattle.boot_backends.specs.Ends.{Finishes, Marks}
 use Rattle.boot_backends.specs.Honest.{Honest}
@@ -84,7 +84,31 @@ pub marks_down : (kind : BootKind) (names : List (List ℕ)) (name : List ℕ) (
 marks_down kind names name a z (Ok x) has are is marks = λ honest. bad_down kind names name (world_now a).vars (world_now z).vars (marks_left kind names Bad name has a z (Ok x) are is marks honest)
 marks_down kind names name a z (Err e) has are is marks = tt
 
--- a name that was marked bad is not primary wherever a mark of another name stops
+-- a stop that leaves all as it is
+as_it_is : (w : World) → Crash w (record w { pending = [] })
+as_it_is w = record {
+  files = refl;
+  vars = refl;
+  writes = refl;
+  runs = refl;
+  fetched = refl;
+  pending = refl;
+  lengths = λ path. refl;
+  bytes = λ path i none. refl;
+}
+
+-- other names keep what they are once the mark has ended, too
+pub keeps_now : (kind : BootKind) (names : List (List ℕ)) (name other : List ℕ) (a z : Past) → Grows a z → KeepsOthers kind names name a z → Honest kind a z → other ≢ name → KeepsName kind names other (world_now a).vars (world_now z).vars
+keeps_now kind names name other a z grown keeps honest ne =
+    keeps honest other ne (record (world_now z) { pending = [] }) (world_now z, was_now a z grown, as_it_is (world_now z))
+
+-- so a name that was marked bad stays down through marks of other names, one after another
+pub still_down : (kind : BootKind) (names : List (List ℕ)) (bad other : List ℕ) (a b c : Past) → bad ≢ other → Downs kind bad a b → KeepsOthers kind names other b c → Grows a b → Grows b c → Downs kind bad a c
+still_down kind names bad other a b c ne downs keeps ab bc = λ honest.
+    let both = honest_splits kind a b c ab bc honest in
+    (keeps_now kind names other bad b c bc keeps both.1 ne).stays_down (downs both.0)
+
+-- and is not primary wherever such a mark stops
 pub stays_down : (kind : BootKind) (names : List (List ℕ)) (bad other : List ℕ) (a b c : Past) → bad ≢ other → Downs kind bad a b → KeepsOthers kind names other b c → Grows a b → Grows b c → Honest kind a c → (v : World) → Held b c v → primary kind v.vars names ≢ Some bad
 stays_down kind names bad other a b c ne downs keeps ab bc honest v held =
     let both = honest_splits kind a b c ab bc honest in
