@@ -23,6 +23,7 @@ demo: $(program)
 bench: $(program) build/hash_file
 	@bash bench/write_slot.sh $(program)
 	@bash bench/configuration.sh $(program)
+	@bash bench/manifest.sh $(program)
 
 check:
 	.ci/run
