@@ -1,4 +1,4 @@
-use crate::cases::{Answer, Call, Case, Device, Play, SILENT, Step, TWO, first_wrong};
+use crate::cases::{Answer, Call, Case, Device, Play, SILENT, Step, THREE, TWO, first_wrong};
 use std::alloc::Global;
 
 const BAREBOX: Device = Device {
@@ -11,6 +11,11 @@ const NAMED_STATE: Device = Device {
     boot: "barebox\nbarebox-statename=emmc",
     slots: TWO,
     machine: "barebox",
+};
+
+const BAREBOX_OF_THREE: Device = Device {
+    slots: THREE,
+    ..BAREBOX
 };
 
 const GET: &str =
@@ -263,15 +268,36 @@ static NAMED: [Case; 2] = [
     },
 ];
 
-fn wrong_rows(alloc: Global) -> [Option<usize>; 3] {
+// The names stand in the order of the slots.
+static THIRD: [Case; 1] = [Case {
+    vars: "bootstate.A.priority=1\nbootstate.B.priority=0\nbootstate.C.priority=20",
+    plays: &[],
+    call: Call::Primary("B"),
+    steps: &[
+        (
+            "barebox-state|-g|bootstate.A.priority|-g|bootstate.A.remaining_attempts|-g|bootstate.B.priority|-g|bootstate.B.remaining_attempts|-g|bootstate.C.priority|-g|bootstate.C.remaining_attempts",
+            None,
+        ),
+        (
+            "barebox-state|-s|bootstate.A.priority=10|-s|bootstate.B.priority=20|-s|bootstate.B.remaining_attempts=3|-s|bootstate.C.priority=10",
+            Some(
+                "bootstate.A.priority=10\nbootstate.B.priority=20\nbootstate.B.remaining_attempts=3\nbootstate.C.priority=10",
+            ),
+        ),
+    ],
+    answer: Answer::Done,
+}];
+
+fn wrong_rows(alloc: Global) -> [Option<usize>; 4] {
     [
         first_wrong(alloc, &BAREBOX, &MARKS),
         first_wrong(alloc, &BAREBOX, &READINGS),
         first_wrong(alloc, &NAMED_STATE, &NAMED),
+        first_wrong(alloc, &BAREBOX_OF_THREE, &THIRD),
     ]
 }
 
 #[test]
 fn barebox(rt: HostRuntime) {
-    assert_eq!(rt; wrong_rows(rt.alloc()), [None; 3]);
+    assert_eq!(rt; wrong_rows(rt.alloc()), [None; 4]);
 }

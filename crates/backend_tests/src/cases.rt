@@ -21,6 +21,19 @@ device=/dev/b
 bootname=B
 ";
 
+// Three roots with bootnames.
+pub const THREE: &str = "
+[slot.rootfs.0]
+device=/dev/a
+bootname=A
+[slot.rootfs.1]
+device=/dev/b
+bootname=B
+[slot.rootfs.2]
+device=/dev/c
+bootname=C
+";
+
 // How a program with these words ends, what it prints, so many more bytes of one value, and how many
 // bytes of its error output. Words have a bar between them.
 #[derive(Clone, Copy)]
@@ -77,6 +90,7 @@ pub struct Case {
 }
 
 // The boot loader of a configuration and its slots, and the boot loader of the machine.
+#[derive(Clone, Copy)]
 pub struct Device {
     pub boot: &'static str,
     pub slots: &'static str,
@@ -293,16 +307,16 @@ fn is_right_throughout(bed: &Bed) -> bool {
     is_right(bed, &NONE, &whole(bed.case))
 }
 
-// The row of the first case that is not right; all rows where the configuration cannot be read.
-pub fn first_wrong(alloc: Global, device: &Device, cases: &[Case]) -> Option<usize> {
-    let Some(system) = system_of(alloc, device.boot, device.slots) else {
-        return Some(cases.len());
-    };
-    let machine = device.machine;
+fn wrong_row(
+    alloc: Global,
+    system: &System,
+    machine: &'static str,
+    cases: &[Case],
+) -> Option<usize> {
     for (row, case) in cases.iter().enumerate() {
         let bed = Bed {
             alloc,
-            system: &system,
+            system,
             machine,
             case,
         };
@@ -311,4 +325,12 @@ pub fn first_wrong(alloc: Global, device: &Device, cases: &[Case]) -> Option<usi
         }
     }
     None
+}
+
+// The row of the first case that is not right; a row behind all where the configuration is not read.
+pub fn first_wrong(alloc: Global, device: &Device, cases: &[Case]) -> Option<usize> {
+    match system_of(alloc, device.boot, device.slots) {
+        Some(system) => wrong_row(alloc, &system, device.machine, cases),
+        None => Some(cases.len()),
+    }
 }

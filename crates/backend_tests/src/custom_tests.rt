@@ -70,7 +70,7 @@ const LONG: Play = Play {
     ..SILENT
 };
 
-static ROWS: [Case; 19] = [
+static ROWS: [Case; 20] = [
     BAD,
     Case {
         vars: "primary=A\nstate.B=bad",
@@ -142,6 +142,10 @@ static ROWS: [Case; 19] = [
             out: b"Bad\n",
             ..SILENT
         }],
+        ..NOT_READ
+    },
+    Case {
+        vars: "state.A=",
         ..NOT_READ
     },
     Case {

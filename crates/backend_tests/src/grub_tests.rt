@@ -1,10 +1,15 @@
-use crate::cases::{Answer, Call, Case, Device, Play, SILENT, Step, TWO, first_wrong};
+use crate::cases::{Answer, Call, Case, Device, Play, SILENT, Step, THREE, TWO, first_wrong};
 use std::alloc::Global;
 
 const GRUB: Device = Device {
     boot: "grub\ngrubenv=/env",
     slots: TWO,
     machine: "grub\ngrubenv=/env",
+};
+
+const GRUB_OF_THREE: Device = Device {
+    slots: THREE,
+    ..GRUB
 };
 
 const WHOLE: &str = "A_OK=1\nA_TRY=0\nB_OK=1\nB_TRY=0\nORDER=A B";
@@ -231,14 +236,30 @@ static READINGS: [Case; 11] = [
     },
 ];
 
-fn wrong_rows(alloc: Global) -> [Option<usize>; 2] {
+// The other names follow in the order of the slots.
+static THIRD: [Case; 1] = [Case {
+    vars: "ORDER=",
+    plays: &[],
+    call: Call::Primary("B"),
+    steps: &[
+        LISTS,
+        (
+            "grub-editenv|/env|set|B_OK=1|B_TRY=0|ORDER=B A C",
+            Some("B_OK=1\nB_TRY=0\nORDER=B A C"),
+        ),
+    ],
+    answer: Answer::Done,
+}];
+
+fn wrong_rows(alloc: Global) -> [Option<usize>; 3] {
     [
         first_wrong(alloc, &GRUB, &MARKS),
         first_wrong(alloc, &GRUB, &READINGS),
+        first_wrong(alloc, &GRUB_OF_THREE, &THIRD),
     ]
 }
 
 #[test]
 fn grub(rt: HostRuntime) {
-    assert_eq!(rt; wrong_rows(rt.alloc()), [None; 2]);
+    assert_eq!(rt; wrong_rows(rt.alloc()), [None; 3]);
 }

@@ -1,4 +1,4 @@
-use crate::cases::{Answer, Call, Case, Device, Play, SILENT, Step, TWO, first_wrong};
+use crate::cases::{Answer, Call, Case, Device, Play, SILENT, Step, THREE, TWO, first_wrong};
 use machine::Ended;
 use std::alloc::Global;
 
@@ -6,6 +6,11 @@ const UBOOT: Device = Device {
     boot: "uboot\nboot-attempts-primary=5",
     slots: TWO,
     machine: "uboot",
+};
+
+const UBOOT_OF_THREE: Device = Device {
+    slots: THREE,
+    ..UBOOT
 };
 
 const WHOLE: &str = "BOOT_A_LEFT=3\nBOOT_B_LEFT=3\nBOOT_ORDER=A B";
@@ -356,14 +361,37 @@ static READINGS: [Case; 10] = [
     },
 ];
 
-fn wrong_rows(alloc: Global) -> [Option<usize>; 2] {
+const ALL_OF_THREE: &[Step] = &[
+    PRINTS,
+    ("fw_printenv|BOOT_A_LEFT", None),
+    (LEFT_OF_B, None),
+    ("fw_printenv|BOOT_C_LEFT", None),
+];
+
+static THIRD: [Case; 2] = [
+    Case {
+        vars: "BOOT_B_LEFT=0\nBOOT_C_LEFT=1\nBOOT_ORDER=A B C",
+        steps: ALL_OF_THREE,
+        answer: Answer::Read("BOOT_B_LEFT=0\nBOOT_C_LEFT=1\nBOOT_ORDER=A B C"),
+        ..READS
+    },
+    Case {
+        vars: "BOOT_B_LEFT=0\nBOOT_C_LEFT=1\nBOOT_ORDER=A B C",
+        steps: ALL_OF_THREE,
+        answer: Answer::Slot(Some(2)),
+        ..BOOTS
+    },
+];
+
+fn wrong_rows(alloc: Global) -> [Option<usize>; 3] {
     [
         first_wrong(alloc, &UBOOT, &MARKS),
         first_wrong(alloc, &UBOOT, &READINGS),
+        first_wrong(alloc, &UBOOT_OF_THREE, &THIRD),
     ]
 }
 
 #[test]
 fn uboot(rt: HostRuntime) {
-    assert_eq!(rt; wrong_rows(rt.alloc()), [None; 2]);
+    assert_eq!(rt; wrong_rows(rt.alloc()), [None; 3]);
 }
