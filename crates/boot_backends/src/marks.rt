@@ -76,9 +76,9 @@ fn mark<M: Machine>(
 }
 
 /// Marks a bootname of the system bad, so that it is not booted, by the programs of its boot loader.
-/// What `system.boot` says decides which these are; their words stand in the reference, a page for
-/// each boot loader. `Program` comes where one ended otherwise than it may, `Output` where one printed
-/// what is not in its form, `Unlisted` where EFI has no entry with the name as its label.
+/// What `system.boot` says decides which these are; their words stand in `docs/boot`, a page for each
+/// boot loader. `Program` comes where one ended otherwise than it may, `Output` where one printed what
+/// is not in its form, `Unlisted` where EFI has no entry with the name as its label.
 pub fn mark_bad<M: Machine>(
     alloc: Global,
     m: &mut M,
