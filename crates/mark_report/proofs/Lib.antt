@@ -1,3 +1,2 @@
-mod Appends
 mod Opened
 mod Telling

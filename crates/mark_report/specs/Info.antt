@@ -1,20 +1,16 @@
 -- What there is to tell of a bundle.
-use Rattle.std.specs.Prelude.{ℕ, Bool, ◌||◌, [], ◌++◌, codes, decimal, length, Option, unwrap_or, if◌then◌else◌}
+use Rattle.std.specs.Prelude.{ℕ, Bool, ◌||◌, [], ◌++◌, codes, decimal, length, Option, unwrap_or}
 use Rattle.std.specs.List.{enumerate_from, flat_map}
 use Rattle.std.specs.Option.{option_map_or}
 use Rattle.hex.specs.Hex.{encode_lower}
 use Rattle.keyfile.specs.Groups.{Text}
 use Rattle.manifest.specs.Contents.{BundleContent, Content, ImageContent}
 use Rattle.manifest.specs.declared.image.ImageFile.{ImageFile}
-use Rattle.mark_report.specs.Lines.{line, line_if_any, number_line, numbered, setting}
+use Rattle.report_lines.specs.Lines.{line, line_if_any, number_line, numbered, setting, text_if}
 use Rattle.updater_text.specs.declared.form.Form.{Form}
 use Rattle.updater_text.specs.declared.form.Form.TheVariants as form
 
 -- ---- for a reader
-
--- the text, where so
-abbrev pub text_if : Bool → Text → Text
-text_if there text = if there then text else []
 
 unfoldable pub file_lines : ImageFile → Text
 file_lines f = line (codes "  file: ") f.name ++ (number_line (codes "  size: ") f.size ++ line (codes "  sha256: ") (encode_lower f.digest.0))

@@ -1,4 +1,3 @@
 pub mod Causes
 pub mod Info
-pub mod Lines
 pub mod Opening

@@ -3,7 +3,6 @@
 
 mod bundle_info;
 mod cause;
-mod lines;
 mod readable;
 mod shell;
 mod text;

@@ -4,8 +4,8 @@ ghost use Rattle.std.specs.List.{flat_map};
 ghost use Rattle.manifest.specs.Reads.{bundle_content, image_content, image_contents, manifest_content};
 ghost use Rattle.mark_report.specs.Info as spec;
 
-use crate::lines::{write_line, write_line_if_any, write_number_line};
 use manifest::{BundleText, Image, ImageFile, Manifest};
+use report_lines::{write_if, write_line, write_line_if_any, write_number_line};
 use std::alloc::{AllocError, Global};
 use updater_text::NoMemory;
 
@@ -71,16 +71,6 @@ fn write_file(alloc: Global, out: &mut Vec<u8>, file: &ImageFile) -> Result<(), 
     write_line(out, "  file: ", file.name.as_str())?;
     write_number_line(alloc, out, "  size: ", file.size)?;
     write_line(out, "  sha256: ", digest.as_str())?;
-    Ok(())
-}
-
-// Writes a text, where so.
-fn write_if(out: &mut Vec<u8>, there: bool, text: &str) -> Result<(), AllocError>
-    ensures { OnOk result (out.new.items ≡ out.old.items ++ spec.text_if there text.now) }
-{
-    if there {
-        out.extend_from_slice(text.as_bytes())?;
-    }
     Ok(())
 }
 

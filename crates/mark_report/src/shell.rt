@@ -4,10 +4,10 @@ ghost use Rattle.std.specs.Option.{option_map_or};
 ghost use Rattle.hex.specs.Hex.{encode_lower};
 ghost use Rattle.manifest.specs.Reads.{bundle_content, image_content, image_contents, manifest_content};
 ghost use Rattle.mark_report.specs.Info as spec;
-ghost use Rattle.mark_report.specs.Lines.{setting};
+ghost use Rattle.report_lines.specs.Lines.{setting};
 
-use crate::lines::{decimal, write_numbered, write_setting};
 use manifest::{BundleText, Image, ImageFile, Manifest};
+use report_lines::{decimal, text_or_none, write_numbered, write_setting};
 use std::alloc::Global;
 use updater_text::{NoMemory, Text};
 
@@ -21,29 +21,19 @@ pub fn write_shell(alloc: Global, out: &mut Vec<u8>, manifest: &Manifest) -> Res
     write_images(alloc, out, manifest.images.as_slice())
 }
 
-// The text, or none.
-fn text_of(text: &Option<Text>) -> &str
-    ensures { result.now ≡ unwrap_or text.entry.now [] }
-{
-    match text {
-        Some(text) => text.as_str(),
-        None => "",
-    }
-}
-
 #[tactic(auto, unfolding(crate::specs::Info::bundle_settings))]
 fn write_bundle(alloc: Global, out: &mut Vec<u8>, bundle: &BundleText) -> Result<(), NoMemory>
     ensures { OnOk result (out.new.items ≡ out.old.items ++ spec.bundle_settings (bundle_content bundle.now)) }
 {
     write_setting(alloc, out, "RAUC_MF_COMPATIBLE", bundle.compatible.as_str())?;
-    write_setting(alloc, out, "RAUC_MF_VERSION", text_of(&bundle.version))?;
+    write_setting(alloc, out, "RAUC_MF_VERSION", text_or_none(&bundle.version))?;
     write_setting(
         alloc,
         out,
         "RAUC_MF_DESCRIPTION",
-        text_of(&bundle.description),
+        text_or_none(&bundle.description),
     )?;
-    write_setting(alloc, out, "RAUC_MF_BUILD", text_of(&bundle.build))?;
+    write_setting(alloc, out, "RAUC_MF_BUILD", text_or_none(&bundle.build))?;
     Ok(())
 }
 

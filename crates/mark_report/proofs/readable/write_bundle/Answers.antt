@@ -1,5 +1,5 @@
 use Rattle.mark_report.specs.Info.{bundle_lines}
-use Rattle.mark_report.proofs.Appends.{four_more}
+use Rattle.report_lines.proofs.Appends.{four_more}
 use Rattle.mark_report.proofs.readable.write_bundle.Goals as goal
 
 pub returns : goal.returns

@@ -1,5 +1,5 @@
 use Rattle.mark_report.specs.Info.{image_lines}
-use Rattle.mark_report.proofs.Appends.{four_more}
+use Rattle.report_lines.proofs.Appends.{four_more}
 use Rattle.mark_report.proofs.readable.write_image.Goals as goal
 
 pub returns : goal.returns

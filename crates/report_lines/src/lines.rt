@@ -1,5 +1,5 @@
-ghost use Rattle.std.specs.Prelude.{◌≡◌, ◌++◌, IfOk, OnOk, decimal, map};
-ghost use Rattle.mark_report.specs.Lines as spec;
+ghost use Rattle.std.specs.Prelude.{◌≡◌, ◌++◌, [], IfOk, OnOk, decimal, map, unwrap_or};
+ghost use Rattle.report_lines.specs.Lines as spec;
 
 use std::alloc::{AllocError, Global};
 use updater_text::{NoMemory, Text, quote};
@@ -92,4 +92,24 @@ pub fn decimal(alloc: Global, number: u64) -> Result<Text, NoMemory>
     ensures { IfOk result (λ text. text ≡ decimal number) }
 {
     Ok(Text::from_string(format!(in alloc; "{number}")?))
+}
+
+/// Writes a text, where so.
+pub fn write_if(out: &mut Vec<u8>, there: bool, text: &str) -> Result<(), AllocError>
+    ensures { OnOk result (out.new.items ≡ out.old.items ++ spec.text_if there text.now) }
+{
+    if there {
+        out.extend_from_slice(text.as_bytes())?;
+    }
+    Ok(())
+}
+
+/// The text, or the empty one.
+pub fn text_or_none(text: &Option<Text>) -> &str
+    ensures { result.now ≡ unwrap_or text.entry.now [] }
+{
+    match text {
+        Some(text) => text.as_str(),
+        None => "",
+    }
 }

@@ -1,6 +1,6 @@
 use Rattle.std.proofs.Common.{◌≡◌, ◌++◌, drop, map}
-use Rattle.mark_report.specs.Lines.{shown_byte}
-use Rattle.mark_report.proofs.lines.write_shown.Given as goal
+use Rattle.report_lines.specs.Lines.{shown_byte}
+use Rattle.report_lines.proofs.lines.write_shown.Given as goal
 
 -- what is written and what is left make the whole
 abbrev pub invariant-loop-byte : goal.invariant-loop-byte
