@@ -8,6 +8,7 @@ use Rattle.hex.specs.Hex.{IsBytes, decode_sized}
 use Rattle.hex.specs.declared.error.FromHexError.{FromHexError}
 use Rattle.hex.proofs.HexLemmas.{decode_of-ok, decode_sized-ok, decode_sized-twice}
 use Rattle.updater_text.specs.Digests.{digest_from, digest_of}
+use Rattle.updater_text.specs.declared.digest.Digest.{Digest}
 use Rattle.keyfile.specs.Groups.{Entry, Group, Text, get_entry, get_in, is_entry, is_entry_value, is_group, is_key_file}
 use Rattle.conf_forms.specs.Forms.{is_text}
 use Rattle.manifest.specs.Sound.{is_text_if_any}
@@ -20,6 +21,9 @@ bytes_pass : (bytes : List ℕ) → IsBytes bytes → list_all (λ b. nat_lt b 2
 bytes_pass [] small = refl
 bytes_pass (b ∷ bytes) small = λ i. lt-ltb b 256 (small 0) i && bytes_pass bytes (λ k. small (suc k)) i
 
+pub bytes_formed : (d : Digest) → length d.0 ≡ 32 → IsBytes d.0 → is_digest d ≡ true
+bytes_formed d long small = λ i. eq-eqb (length d.0) 32 long i && bytes_pass d.0 small i
+
 pub digest_formed : (text : List ℕ) → option_map_or is_digest (digest_of text) true ≡ true
 digest_formed text = go (decode_sized text 32) refl
   where
@@ -28,7 +32,7 @@ digest_formed text = go (decode_sized text 32) refl
     go (Ok bytes) is =
         let long = decode_sized-ok text 32 bytes is in
         let read = decode_of-ok text bytes (sym (decode_sized-twice text 32 long) ∙ is) in
-        λ i. eq-eqb (length bytes) 32 (omega (arith, read.2, long)) i && bytes_pass bytes read.3 i
+        bytes_formed (record { 0 = bytes }) (omega (arith, read.2, long)) read.3
 
 -- ---- texts
 

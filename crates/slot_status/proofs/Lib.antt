@@ -1,2 +1,4 @@
 mod Calendar
+mod Changing
 mod Formed
+mod Times

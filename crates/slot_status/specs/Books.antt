@@ -1,8 +1,7 @@
 -- What the code's values hold.
-use Rattle.std.specs.Prelude.{ℕ, List, map, slice_get, unwrap_or}
+use Rattle.std.specs.Prelude.{List, map, option_map}
 use Rattle.manifest.specs.Reads.{bundle_content}
-use Rattle.std.specs.Prelude.{option_map}
-use Rattle.slot_status.specs.Records.{RecordContent, no_record}
+use Rattle.slot_status.specs.Records.{RecordContent}
 use Rattle.slot_status.specs.declared.slot_record.SlotRecord.{SlotRecord}
 
 -- what the record of a slot holds, without the facts about it
@@ -20,7 +19,3 @@ record_content r = record {
 
 abbrev pub record_contents : List SlotRecord → List RecordContent
 record_contents = map record_content
-
--- the record at a place
-abbrev pub record_at : List RecordContent → ℕ → RecordContent
-record_at book slot = unwrap_or (slice_get book slot) no_record

@@ -1,6 +1,6 @@
 -- Why a record is not changed.
-use Rattle.std.specs.Prelude.{ℕ, ℤ, pos, negsuc, Bool, true, ◌==◌, ◌||◌, nat_lt, Option, Some, None, Result, Ok, Err, if◌then◌else◌}
-use Rattle.slot_status.specs.Records.{RecordContent}
+use Rattle.std.specs.Prelude.{ℕ, ℤ, pos, negsuc, Bool, true, ◌==◌, ◌||◌, nat_lt, List, Option, Some, None, Result, Ok, Err, if◌then◌else◌}
+use Rattle.slot_status.specs.Records.{RecordContent, record_at}
 use Rattle.slot_status.specs.declared.refusal.StatusRefusal.{StatusRefusal}
 use Rattle.slot_status.specs.declared.refusal.StatusRefusal.TheVariants as refusal
 
@@ -13,16 +13,22 @@ is_out_of_range (negsuc seconds) = true
 abbrev pub is_at_end : ℕ → Bool
 is_at_end count = count == 4294967295
 
--- one of the two counts
-abbrev pub has_count_at_end : RecordContent → Bool
-has_count_at_end r = is_at_end r.installed_count || is_at_end r.activated_count
-
 -- the time is looked at before the count
 abbrev pub refusal_of : ℕ → ℤ → Bool → Option StatusRefusal
 refusal_of slot seconds ended =
     if is_out_of_range seconds then Some (refusal.ClockRange seconds)
     else if ended then Some (refusal.CountEnd slot)
     else None
+
+-- why the record at a place is not changed by an install and an activation, by an install alone, and by an activation alone
+abbrev pub ready_refusal : List RecordContent → ℕ → ℤ → Option StatusRefusal
+ready_refusal book slot seconds = refusal_of slot seconds (is_at_end (record_at book slot).installed_count || is_at_end (record_at book slot).activated_count)
+
+abbrev pub finish_refusal : List RecordContent → ℕ → ℤ → Option StatusRefusal
+finish_refusal book slot seconds = refusal_of slot seconds (is_at_end (record_at book slot).installed_count)
+
+abbrev pub activate_refusal : List RecordContent → ℕ → ℤ → Option StatusRefusal
+activate_refusal book slot seconds = refusal_of slot seconds (is_at_end (record_at book slot).activated_count)
 
 -- nothing, where there is no refusal
 abbrev pub unless_refused : Option StatusRefusal → Result (Unit {0}) StatusRefusal

@@ -1,14 +1,19 @@
-ghost use Rattle.std.specs.Prelude.{◌≡◌, ◌<◌, ◌||◌, IfOk, OnErr, OnOk, length, option_copied, replicate};
+ghost use Rattle.std.specs.Prelude.{◌≡◌, ◌<◌, IfOk, OnErr, OnOk, length, option_copied, replicate};
+ghost use Rattle.updater_text.specs.Answers.{Gives};
 ghost use Rattle.manifest.specs.Reads.{bundle_content};
-ghost use Rattle.slot_status.specs.Books.{record_at, record_content, record_contents};
-ghost use Rattle.slot_status.specs.Changes.{Changes, activate_record, begin_record, changed_at, finish_record};
-ghost use Rattle.slot_status.specs.Records.{no_record};
-ghost use Rattle.slot_status.specs.Refusals.{has_count_at_end, is_at_end, refusal_of, unless_refused};
+ghost use Rattle.slot_status.specs.Books.{record_content, record_contents};
+ghost use Rattle.slot_status.specs.Changes.{activated, begun, finished};
+ghost use Rattle.slot_status.specs.Records.{no_record, record_at};
+ghost use Rattle.slot_status.specs.Refusals.{activate_refusal, finish_refusal, ready_refusal, unless_refused};
 
-use crate::SlotRecord;
+use crate::bundle::copy_bundle;
+use crate::refusal::refusal_of;
+use crate::time::time_text;
+use crate::{SlotRecord, StatusRefusal};
+use manifest::{BundleText, ImageFile};
 use std::alloc::Global;
 use std::marker::Model;
-use updater_text::NoMemory;
+use updater_text::{Lack, NoMemory, Text};
 
 /// The records of all slots, in the order of the slots. Contracts see it as the list of what they
 /// hold.
@@ -53,6 +58,80 @@ impl StatusBook {
         ensures { record_content result.now ≡ record_at self.now slot }
     {
         &self.records[slot]
+    }
+
+    /// Whether the slot at this place can be installed and activated at a time, which is told in seconds
+    /// since 1970: `ClockRange` where that is below 0 or above 253402300799, and then `CountEnd` where
+    /// one of the slot's counts is 4294967295. It takes no memory.
+    pub fn ready(&self, slot: usize, now: i64) -> Result<(), StatusRefusal>
+        requires { slot < length self.now }
+        ensures { result ≡ unless_refused (ready_refusal self.now slot now) }
+    {
+        let installed = self.slot_record(slot).installed_count;
+        let activated = self.slot_record(slot).activated_count;
+        match refusal_of(slot, now, installed == u32::MAX || activated == u32::MAX) {
+            Some(why) => Err(why),
+            None => Ok(()),
+        }
+    }
+
+    /// Gives the slot at this place the status `update`, and leaves all else as it is. Out of memory, it
+    /// leaves the book as it is.
+    pub fn begin(&mut self, slot: usize) -> Result<(), NoMemory>
+        requires { slot < length self.old }
+        ensures ok { OnOk result (self.new ≡ begun slot self.old) }
+        ensures err { OnErr result (self.new ≡ self.old) }
+    {
+        let update = Text::new(self.alloc, "update")?;
+        self.records[slot].begin(update);
+        Ok(())
+    }
+
+    /// Notes that the slot at this place was installed: what the bundle says of itself, the status `ok`,
+    /// the digest and the size of the image's file, or none where a hook installed it, the time in
+    /// seconds since 1970, and a count of installs that is one higher. `ClockRange` where the time is
+    /// below 0 or above 253402300799, and then `CountEnd` where that count is 4294967295. Refused or out
+    /// of memory, it leaves the book as it is.
+    pub fn finish(
+        &mut self,
+        slot: usize,
+        bundle: &BundleText,
+        file: Option<&ImageFile>,
+        now: i64,
+    ) -> Result<(), Lack<StatusRefusal>>
+        requires { slot < length self.old }
+        ensures answer { Gives result (unless_refused (finish_refusal self.old slot now)) }
+        ensures ok { OnOk result (self.new ≡ finished slot (bundle_content bundle.now) (option_copied file.entry) now self.old) }
+        ensures err { OnErr result (self.new ≡ self.old) }
+    {
+        let ended = self.slot_record(slot).installed_count == u32::MAX;
+        if let Some(why) = refusal_of(slot, now, ended) {
+            return Err(Lack::Refused(why));
+        }
+        let bundle = copy_bundle(self.alloc, bundle)?;
+        let ok = Text::new(self.alloc, "ok")?;
+        let time = time_text(self.alloc, now.unsigned_abs())?;
+        self.records[slot].finish(bundle, ok, file, time);
+        Ok(())
+    }
+
+    /// Notes that the slot at this place was made the one to boot from: the time in seconds since 1970,
+    /// and a count of activations that is one higher. `ClockRange` where the time is below 0 or above
+    /// 253402300799, and then `CountEnd` where that count is 4294967295. Refused or out of memory, it
+    /// leaves the book as it is.
+    pub fn activate(&mut self, slot: usize, now: i64) -> Result<(), Lack<StatusRefusal>>
+        requires { slot < length self.old }
+        ensures answer { Gives result (unless_refused (activate_refusal self.old slot now)) }
+        ensures ok { OnOk result (self.new ≡ activated slot now self.old) }
+        ensures err { OnErr result (self.new ≡ self.old) }
+    {
+        let ended = self.slot_record(slot).activated_count == u32::MAX;
+        if let Some(why) = refusal_of(slot, now, ended) {
+            return Err(Lack::Refused(why));
+        }
+        let time = time_text(self.alloc, now.unsigned_abs())?;
+        self.records[slot].activate(time);
+        Ok(())
     }
 }
 

@@ -7,6 +7,7 @@ mod bundle;
 mod cause;
 mod changes;
 mod day;
+mod image_file;
 mod reading;
 mod refusal;
 mod slot_record;
