@@ -1,13 +1,10 @@
 -- One record of a book changes.
-use Rattle.std.proofs.Common.{◌≡◌, ◌∙◌, ◌<◌, refl, sym, ap, ℕ, zero, suc, ℤ, Bool, true, false, cond, eqb, ltb-true, List, [], ◌∷◌, length, get_or, set, Some, None, nat_lt, ◌^◌, arith}
-use Rattle.std.proofs.lemmas.Bool.{and_parts, true≢false}
+use Rattle.std.proofs.Common.{◌≡◌, ◌∙◌, ◌<◌, refl, sym, ap, ℕ, zero, suc, ℤ, Bool, true, false, cond, eqb, List, [], ◌∷◌, length, get_or, set, Some, None, arith}
+use Rattle.std.proofs.lemmas.Bool.{true≢false}
 use Rattle.std.proofs.lemmas.List.{get_or-map, length-map}
 use Rattle.slot_status.specs.Books.{record_content, record_contents}
 use Rattle.slot_status.specs.Changes.{changed_at}
 use Rattle.slot_status.specs.Records.{RecordContent, no_record, record_at}
-use Rattle.manifest.specs.Sound.{is_text_if_any}
-use Rattle.slot_status.specs.Sound.{is_digest}
-use Rattle.std.specs.Option.{option_map_or}
 use Rattle.slot_status.specs.Refusals.{is_out_of_range, refusal_of}
 use Rattle.std.proofs.lemmas.Bool.Decides.{nat_tests}
 use Rattle.slot_status.specs.declared.refusal.StatusRefusal.TheVariants as refusal
@@ -38,13 +35,3 @@ can_rise count other same ended small = go (eqb count 4294967295) refl
     go : (b : Bool) → eqb count 4294967295 ≡ b → count < 4294967295
     go true is = absurd (true≢false (sym is ∙ ap (λ (n : ℕ). eqb n 4294967295) (sym same) ∙ ended))
     go false is = grind (arith, nat_tests)
-
--- the counts of a record fit 32 bits
-pub counts_fit : (r : SlotRecord) → (r.installed_count < 4294967296) × (r.activated_count < 4294967296)
-counts_fit r =
-    let digests = (and_parts (is_text_if_any r.status) _ r.formed).1 in
-    let sizes = (and_parts (option_map_or is_digest r.digest true) _ digests).1 in
-    let times = (and_parts (option_map_or (λ (n : ℕ). nat_lt n (2 ^ 64)) r.size true) _ sizes).1 in
-    let installs = (and_parts (is_text_if_any r.installed_time) _ times).1 in
-    let parts = and_parts (nat_lt r.installed_count (2 ^ 32)) _ installs in
-    (ltb-true r.installed_count (2 ^ 32) parts.0, ltb-true r.activated_count (2 ^ 32) (and_parts (is_text_if_any r.activated_time) _ parts.1).1)

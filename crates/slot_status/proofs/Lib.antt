@@ -1,4 +1,10 @@
+mod Back
 mod Calendar
 mod Changing
+mod Digits
+mod Facts
 mod Formed
+mod Groups
+mod Names
+mod Putting
 mod Times

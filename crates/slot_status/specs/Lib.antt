@@ -1,6 +1,7 @@
 pub mod Books
 pub mod Causes
 pub mod Changes
+pub mod Puts
 pub mod Records
 pub mod Refusals
 pub mod Sound

@@ -1,15 +1,18 @@
-ghost use Rattle.std.specs.Prelude.{◌≡◌, ◌<◌, IfOk, OnErr, OnOk, length, option_copied, replicate};
+ghost use Rattle.std.specs.Prelude.{◌≡◌, ◌<◌, ◌≤◌, IfOk, IsTrue, Ok, OnErr, OnOk, length, option_copied, replicate};
 ghost use Rattle.updater_text.specs.Answers.{Gives};
 ghost use Rattle.manifest.specs.Reads.{bundle_content};
 ghost use Rattle.slot_status.specs.Books.{record_content, record_contents};
 ghost use Rattle.slot_status.specs.Changes.{activated, begun, finished};
-ghost use Rattle.slot_status.specs.Records.{no_record, record_at};
+ghost use Rattle.slot_status.specs.Records.{book_of, no_record, record_at};
 ghost use Rattle.slot_status.specs.Refusals.{activate_refusal, finish_refusal, ready_refusal, unless_refused};
+ghost use Rattle.slot_status.specs.Texts.{are_slot_names, book_text};
 
 use crate::bundle::copy_bundle;
 use crate::refusal::refusal_of;
 use crate::time::time_text;
+use crate::writing::put_slot;
 use crate::{SlotRecord, StatusRefusal};
+use keyfile::KeyFile;
 use manifest::{BundleText, ImageFile};
 use std::alloc::Global;
 use std::marker::Model;
@@ -101,7 +104,8 @@ impl StatusBook {
     ) -> Result<(), Lack<StatusRefusal>>
         requires { slot < length self.old }
         ensures answer { Gives result (unless_refused (finish_refusal self.old slot now)) }
-        ensures ok { OnOk result (self.new ≡ finished slot (bundle_content bundle.now) (option_copied file.entry) now self.old) }
+        ensures ok { OnOk result
+            (self.new ≡ finished slot (bundle_content bundle.now) (option_copied file.entry) now self.old) }
         ensures err { OnErr result (self.new ≡ self.old) }
     {
         let ended = self.slot_record(slot).installed_count == u32::MAX;
@@ -132,6 +136,24 @@ impl StatusBook {
         let time = time_text(self.alloc, now.unsigned_abs())?;
         self.records[slot].activate(time);
         Ok(())
+    }
+
+    /// The text of the status file, as `read_book` reads it: a group `[slot.<name>]` for each slot of which
+    /// anything is known, with its keys in this order: `bundle.compatible`, `bundle.version`,
+    /// `bundle.description`, `bundle.build`, `status`, `sha256`, `size`, `installed.timestamp`,
+    /// `installed.count`, `activated.timestamp`, `activated.count`. A count of 0 is not written. The only
+    /// error is out of memory.
+    pub fn text(&self, names: &[Text]) -> Result<Vec<u8>, NoMemory>
+        requires count { length names.now ≡ length self.now }
+        requires names { IsTrue (are_slot_names names.now) }
+        ensures text { IfOk result (λ text. text.items ≡ book_text names.now self.now) }
+        ensures reads_back { IfOk result (λ text. length text.items ≤ 1048576 → book_of names.now text.items ≡ Ok self.now) }
+    {
+        let mut file = KeyFile::new(self.alloc)?;
+        for slot in 0..names.len() {
+            put_slot(self.alloc, &mut file, &names[slot], &self.records[slot])?;
+        }
+        file.write()
     }
 }
 

@@ -13,6 +13,7 @@ mod refusal;
 mod slot_record;
 mod time;
 mod values;
+mod writing;
 
 pub use book::StatusBook;
 pub use cause::status_cause;

@@ -6,7 +6,8 @@ use Rattle.manifest.specs.Sound.{is_bundle_text}
 use Rattle.slot_status.specs.Changes.{activate_record, activated}
 use Rattle.slot_status.specs.Records.{RecordContent, record_at}
 use Rattle.slot_status.specs.Times.{time_text}
-use Rattle.slot_status.proofs.Changing.{can_rise, counts_fit, not_ended, record_changed, record_there}
+use Rattle.slot_status.proofs.Changing.{can_rise, not_ended, record_changed, record_there}
+use Rattle.slot_status.proofs.Facts.{facts}
 use Rattle.slot_status.proofs.Times.{time_formed}
 use Rattle.slot_status.proofs.book.StatusBook.activate.Goals as goal
 
@@ -19,7 +20,7 @@ activate-requires-clause-more c =
     let within = subst (λ (book : List RecordContent). c.args.slot < length book) (sym c.self.view_is) c.requires in
     let there = record_there c.self.inside.records.items c.args.slot r within c.index_mut.ensures.value in
     let same = c.slot_record.ensures ∙ ap (λ (book : List RecordContent). record_at book c.args.slot) (sym c.self.view_is) ∙ there in
-    can_rise r.activated_count c.slot_record.result.now.activated_count (ap (λ (x : RecordContent). x.activated_count) same) (not_ended c.args.slot (to_z w64 (of_z w64 c.args.now)) _ c.in_default.ensures) (counts_fit r).1
+    can_rise r.activated_count c.slot_record.result.now.activated_count (ap (λ (x : RecordContent). x.activated_count) same) (not_ended c.args.slot (to_z w64 (of_z w64 c.args.now)) _ c.in_default.ensures) (facts r).activated_fits
 
 pub returns-clause-ok : goal.returns-clause-ok
 returns-clause-ok c =
