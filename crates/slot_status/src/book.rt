@@ -84,6 +84,7 @@ impl StatusBook {
         requires { slot < length self.old }
         ensures ok { OnOk result (self.new ≡ begun slot self.old) }
         ensures err { OnErr result (self.new ≡ self.old) }
+        ensures count { length self.new ≡ length self.old }
     {
         let update = Text::new(self.alloc, "update")?;
         self.records[slot].begin(update);
@@ -107,6 +108,7 @@ impl StatusBook {
         ensures ok { OnOk result
             (self.new ≡ finished slot (bundle_content bundle.now) (option_copied file.entry) now self.old) }
         ensures err { OnErr result (self.new ≡ self.old) }
+        ensures count { length self.new ≡ length self.old }
     {
         let ended = self.slot_record(slot).installed_count == u32::MAX;
         if let Some(why) = refusal_of(slot, now, ended) {
@@ -128,6 +130,7 @@ impl StatusBook {
         ensures answer { Gives result (unless_refused (activate_refusal self.old slot now)) }
         ensures ok { OnOk result (self.new ≡ activated slot now self.old) }
         ensures err { OnErr result (self.new ≡ self.old) }
+        ensures count { length self.new ≡ length self.old }
     {
         let ended = self.slot_record(slot).activated_count == u32::MAX;
         if let Some(why) = refusal_of(slot, now, ended) {

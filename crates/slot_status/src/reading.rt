@@ -1,4 +1,4 @@
-ghost use Rattle.std.specs.Prelude.{◌≡◌, IfOk, map};
+ghost use Rattle.std.specs.Prelude.{◌≡◌, IfOk, length, map};
 ghost use Rattle.updater_text.specs.Answers.{Gives};
 ghost use Rattle.keyfile.specs.Groups.{get_in};
 ghost use Rattle.slot_status.specs.Books.{record_content, record_contents};
@@ -16,7 +16,8 @@ use updater_text::{Lack, NoMemory, Text};
 /// than 1,024 bytes, a digest and a number that cannot be read are as if they were not there, and a
 /// count of 2^32 or more is 0. The refusals are those of `keyfile::read`.
 pub fn read_book(alloc: Global, names: &[Text], bytes: &[u8]) -> Result<StatusBook, Lack<KeyFault>>
-    ensures { Gives result (book_of names.now bytes.now) }
+    ensures book { Gives result (book_of names.now bytes.now) }
+    ensures count { IfOk result (λ book. length book ≡ length names.now) }
 {
     let file = read(alloc, bytes)?;
     match read_records(alloc, &file, names) {
