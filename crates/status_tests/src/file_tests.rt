@@ -24,83 +24,60 @@ size=0
 ";
 
 // What stands in a status file of two slots, and what is written in its place.
-static FILES: [(&str, &str); 37] = [
-    ("", ""),
+static FILES: [(&str, &str); 6] = [
     (FULL, FULL),
     ("# nothing\n[slot.rootfs.0]\n[slot.rootfs.1]\n", ""),
     (
-        "[slot.rootfs.1]\nstatus=ok\n[boot]\nx=1\n[slot.rootfs.0]\nstatus=update\n[slot.rootfs.7]\nstatus=ok\n",
-        "[slot.rootfs.0]\nstatus=update\n\n[slot.rootfs.1]\nstatus=ok\n",
+        "[slot.rootfs.1]\nstatus=ok\n[x]\n[slot.rootfs.0]\nsize=1\n[slot.rootfs.7]\nsize=2\n",
+        "[slot.rootfs.0]\nsize=1\n\n[slot.rootfs.1]\nstatus=ok\n",
     ),
+    ("[slot.rootfs]\nsize=1\n[rootfs.0]\nsize=1\n", ""),
+    ("[slot.rootfs.00]\nsize=1\n[slot.ROOTFS.0]\nsize=1\n", ""),
+    ("[slot.rootfs.0]\r\nsize=1\r\n", "[slot.rootfs.0]\nsize=1\n"),
+];
+
+// What stands in the group of a slot, and what is written in its place.
+static KEYS: [(&str, &str); 28] = [
     (
-        "[slot.rootfs.1]\nactivated.count=1\nother=x\nstatus=\nslot=1\nbundle.compatible=T\n",
-        "[slot.rootfs.1]\nbundle.compatible=T\nstatus=\nactivated.count=1\n",
+        "activated.count=1\nx=x\nstatus=\nbundle.compatible=T",
+        "bundle.compatible=T\nstatus=\nactivated.count=1",
     ),
+    ("bundle.version=1\nbundle.description=d\nbundle.build=b", ""),
+    ("bundle.compatible=", "bundle.compatible="),
+    ("Status=ok", ""),
+    ("status=update\nstatus=ok", "status=ok"),
     (
-        "[slot.rootfs.1]\nbundle.version=1\nbundle.description=d\nbundle.build=b\n",
+        "status=ok\ninstalled.count=x\nsize=y\nsha256=z",
+        "status=ok",
+    ),
+    ("sha256=", ""),
+    ("sha256=ba78", ""),
+    (
+        "sha256=ga7816bf8f01cfea414140de5dae2223b00361a396177a9cb410ff61f20015ad",
         "",
     ),
     (
-        "[slot.rootfs.1]\nbundle.compatible=\n",
-        "[slot.rootfs.1]\nbundle.compatible=\n",
+        "sha256=BA7816BF8F01CFEA414140DE5DAE2223B00361A396177A9CB410FF61F20015AD",
+        "sha256=ba7816bf8f01cfea414140de5dae2223b00361a396177a9cb410ff61f20015ad",
     ),
-    ("[slot.rootfs.1]\nbundle.hash=1\n", ""),
-    ("[slot.rootfs.1]\nsha256=\n", ""),
-    ("[slot.rootfs.1]\nsha256=ba78\n", ""),
-    (
-        "[slot.rootfs.1]\nsha256=ga7816bf8f01cfea414140de5dae2223b00361a396177a9cb410ff61f20015ad\n",
-        "",
-    ),
-    (
-        "[slot.rootfs.1]\nsha256=BA7816BF8F01CFEA414140DE5DAE2223B00361A396177A9CB410FF61F20015AD\n",
-        "[slot.rootfs.1]\nsha256=ba7816bf8f01cfea414140de5dae2223b00361a396177a9cb410ff61f20015ad\n",
-    ),
-    ("[slot.rootfs.1]\nsize=\n", ""),
-    ("[slot.rootfs.1]\nsize=3K\n", ""),
-    ("[slot.rootfs.1]\nsize=-1\n", ""),
-    ("[slot.rootfs.1]\nsize=18446744073709551616\n", ""),
-    ("[slot.rootfs.1]\nsize=0000000000000000000001\n", ""),
-    ("[slot.rootfs.1]\nsize=007\n", "[slot.rootfs.1]\nsize=7\n"),
-    (
-        "[slot.rootfs.1]\ninstalled.timestamp=yesterday\n",
-        "[slot.rootfs.1]\ninstalled.timestamp=yesterday\n",
-    ),
-    (
-        "[slot.rootfs.1]\nactivated.timestamp=\n",
-        "[slot.rootfs.1]\nactivated.timestamp=\n",
-    ),
-    ("[slot.rootfs.1]\ninstalled.count=0\n", ""),
-    ("[slot.rootfs.1]\ninstalled.count=\n", ""),
-    ("[slot.rootfs.1]\ninstalled.count=one\n", ""),
-    ("[slot.rootfs.1]\ninstalled.count=4294967296\n", ""),
-    (
-        "[slot.rootfs.1]\ninstalled.count=4294967295\n",
-        "[slot.rootfs.1]\ninstalled.count=4294967295\n",
-    ),
-    ("[slot.rootfs.1]\nactivated.count=0\n", ""),
-    ("[slot.rootfs.1]\nactivated.count=1.5\n", ""),
-    ("[slot.rootfs.1]\nactivated.count=4294967296\n", ""),
-    (
-        "[slot.rootfs.1]\nactivated.count=0007\n",
-        "[slot.rootfs.1]\nactivated.count=7\n",
-    ),
-    (
-        "[slot.rootfs.1]\nstatus=update\nstatus=ok\n",
-        "[slot.rootfs.1]\nstatus=ok\n",
-    ),
-    (
-        "[slot.rootfs.1]\nstatus=ok\ninstalled.count=x\nsize=y\nsha256=z\n",
-        "[slot.rootfs.1]\nstatus=ok\n",
-    ),
-    ("[slot.rootfs]\nstatus=ok\n", ""),
-    ("[rootfs.0]\nstatus=ok\n", ""),
-    ("[slot.rootfs.00]\nstatus=ok\n", ""),
-    ("[slot.ROOTFS.0]\nstatus=ok\n", ""),
-    ("[slot.rootfs.0]\nStatus=ok\n", ""),
-    (
-        "[slot.rootfs.0]\r\nstatus=ok\r\n",
-        "[slot.rootfs.0]\nstatus=ok\n",
-    ),
+    ("size=", ""),
+    ("size=3K", ""),
+    ("size=-1", ""),
+    ("size=18446744073709551616", ""),
+    ("size=0000000000000000000001", ""),
+    ("size=007", "size=7"),
+    ("installed.timestamp=then", "installed.timestamp=then"),
+    ("activated.timestamp=", "activated.timestamp="),
+    ("installed.count=0", ""),
+    ("installed.count=", ""),
+    ("installed.count=one", ""),
+    ("installed.count=4294967296", ""),
+    ("installed.count=4294967295", "installed.count=4294967295"),
+    ("activated.count=0", ""),
+    ("activated.count=1.5", ""),
+    ("activated.count=4294967296", ""),
+    ("activated.count=0007", "activated.count=7"),
+    ("bundle.hash=1", ""),
 ];
 
 fn is_rewritten(alloc: Global, given: &[u8], wanted: &str) -> bool {
@@ -110,11 +87,29 @@ fn is_rewritten(alloc: Global, given: &[u8], wanted: &str) -> bool {
     }
 }
 
+fn is_kept(alloc: Global, given: &str, wanted: &str) -> Option<bool> {
+    let given = format!(in alloc; "[slot.rootfs.1]\n{given}\n").ok()?;
+    if wanted.is_empty() {
+        return Some(is_rewritten(alloc, given.as_bytes(), ""));
+    }
+    let wanted = format!(in alloc; "[slot.rootfs.1]\n{wanted}\n").ok()?;
+    Some(is_rewritten(alloc, given.as_bytes(), wanted.as_str()))
+}
+
 #[test]
-fn reads_and_writes(rt: HostRuntime) -> Result<(), Fail> {
+fn reads_and_writes_groups(rt: HostRuntime) -> Result<(), Fail> {
     let alloc = rt.alloc();
     for (given, wanted) in FILES {
         assert!(rt; is_rewritten(alloc, given.as_bytes(), wanted), "{given}");
+    }
+    Ok(())
+}
+
+#[test]
+fn reads_and_writes_keys(rt: HostRuntime) -> Result<(), Fail> {
+    let alloc = rt.alloc();
+    for (given, wanted) in KEYS {
+        assert!(rt; is_kept(alloc, given, wanted) == Some(true), "{given}");
     }
     Ok(())
 }
