@@ -47,7 +47,8 @@ stopped boot cs w u v t crash = record {
 }
 
 module _ (kind : BootKind) (names : List (List ℕ)) (mark : Mark) (name : List ℕ) (a z : Past) (result : Result ⊤ (Stop BootRefusal)) where
-  led_by : (read : Variables) → Always a z (Through a.boot (commands_of kind names mark name read) (world_now a)) → Led kind names mark name a z
+  -- it leads where each world was on the way
+  pub led_by : (read : Variables) → Always a z (Through a.boot (commands_of kind names mark name read) (world_now a)) → Led kind names mark name a z
   led_by read moments = record {
     read = read;
     moments = moments;

@@ -58,8 +58,8 @@ pub fn boot_cause(alloc: Global, refusal: &BootRefusal) -> Result<Text, NoMemory
     }
 }
 
-// The name of the slot at a place.
-fn name_at(slots: &[Slot], at: usize) -> &str
+/// The name of the slot at a place.
+pub fn name_at(slots: &[Slot], at: usize) -> &str
     ensures { result.now ≡ spec.name_at slots.now at }
 {
     match slots.get(at) {

@@ -3,8 +3,10 @@
 
 mod cause;
 mod choice;
+mod marks;
 mod refusal;
 
 pub use cause::{boot_cause, mark_cause};
 pub use choice::slot_chosen;
+pub use marks::{Action, Marked, mark};
 pub use refusal::MarkRefusal;
