@@ -2,6 +2,7 @@ ghost use Rattle.std.specs.Prelude.{◌≡◌, IfOk, IsTrue};
 ghost use Rattle.machine.specs.Calls.{Counted, call_fault};
 ghost use Rattle.machine.specs.Frames.{Unchanged};
 ghost use Rattle.machine.specs.Past.{Fails, world_now};
+ghost use Rattle.machine.specs.Runs.{ReadsOnce};
 ghost use Rattle.running_system.specs.Running.{Answers, file_within};
 
 use machine::{CallStop, Fault, Machine, ReadStop};
@@ -17,6 +18,7 @@ pub fn file_within<M: Machine>(
     limit: u64,
 ) -> Result<Option<Items<u8>>, CallStop>
     ensures unchanged { Unchanged M.tells (M.past m.old) (M.past m.new) }
+    ensures once { IsTrue M.tells → ReadsOnce path.now (M.past m.old) (M.past m.new) }
     ensures answers { Answers M.tells (file_within (world_now (M.past m.old)) path.now limit) result }
     ensures fails { Fails M.tells (M.past m.old) (M.past m.new) (call_fault Fault.Read result) }
     ensures counts { Counted (M.faults m.old) (M.faults m.new) (M.wants m.old) (M.wants m.new) result }

@@ -2,6 +2,7 @@ ghost use Rattle.std.specs.Prelude.{◌≡◌, ◌<◌, ◌↔◌, IfOk, IsTrue,
 ghost use Rattle.machine.specs.Calls.{Counted, call_fault};
 ghost use Rattle.machine.specs.Frames.{Unchanged};
 ghost use Rattle.machine.specs.Past.{Fails, world_now};
+ghost use Rattle.machine.specs.Runs.{ReadsOnce};
 ghost use Rattle.slot_graph.specs.Booted.{state_of};
 ghost use Rattle.running_system.specs.Running.{Answers, LiesInBooted, booted_by_text, file_within, is_in_use, what_runs};
 
@@ -24,6 +25,7 @@ fn what_kernel_tells<M: Machine>(
     system: &System,
 ) -> Result<Booted, CallStop>
     ensures unchanged { Unchanged M.tells (M.past m.old) (M.past m.new) }
+    ensures once { IsTrue M.tells → ReadsOnce (codes "/proc/cmdline") (M.past m.old) (M.past m.new) }
     ensures answers { let line = file_within (world_now (M.past m.old)) (codes "/proc/cmdline") 65536 in
         Answers M.tells (booted_by_text system.now.slots line) result }
     ensures fails { Fails M.tells (M.past m.old) (M.past m.new) (call_fault Fault.Read result) }
@@ -37,7 +39,7 @@ fn what_kernel_tells<M: Machine>(
 }
 
 /// What is booted: by the given name, or else by `/proc/cmdline`; `Unknown` where that is missing or
-/// longer than 65,536 bytes. A given name needs no read. It gives `Failed` where the read fails, and
+/// longer than 65,536 bytes. A given name needs no read; else there is one at most. It gives `Failed` where the read fails, and
 /// `NoMemory` where memory is out.
 pub fn what_runs<M: Machine>(
     alloc: Global,
@@ -46,6 +48,7 @@ pub fn what_runs<M: Machine>(
     given: Option<&str>,
 ) -> Result<Booted, CallStop>
     ensures unchanged { Unchanged M.tells (M.past m.old) (M.past m.new) }
+    ensures once { IsTrue M.tells → ReadsOnce (codes "/proc/cmdline") (M.past m.old) (M.past m.new) }
     ensures answers { let name = option_map (λ name. name.now) given.entry in
         Answers M.tells (what_runs system.now.slots name (world_now (M.past m.old))) result }
     ensures fails { Fails M.tells (M.past m.old) (M.past m.new) (call_fault Fault.Read result) }
