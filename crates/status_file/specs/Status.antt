@@ -1,0 +1,38 @@
+-- What the status file of a system says of its slots.
+use Rattle.std.specs.Prelude.{◌≡◌, Bool, List, length, map, replicate, Option, Some, None, Result, Ok}
+use Rattle.std.specs.Result.{is_err, result_unwrap_or}
+use Rattle.keyfile.specs.Groups.{Text}
+use Rattle.keyfile.specs.declared.fault.KeyFault.{KeyFault}
+use Rattle.slot_status.specs.Records.{RecordContent, book_of, no_record}
+use Rattle.system_conf.specs.declared.slot.Slot.{Slot}
+use Rattle.status_file.specs.declared.reading.StatusRead.{StatusRead}
+
+abbrev pub names_in : List Slot → List Text
+names_in slots = map (λ s. s.name) slots
+
+-- the book of slots of which nothing is known
+abbrev pub blank_book : List Slot → List RecordContent
+blank_book slots = replicate (length slots) no_record
+
+-- the book that a file holds, where there is one; or why it cannot be read
+abbrev pub book_told : List Slot → Option Text → Result (List RecordContent) KeyFault
+book_told slots None = Ok (blank_book slots)
+book_told slots (Some bytes) = book_of (names_in slots) bytes
+
+-- the book that counts: a blank one where the file is not there, or cannot be read
+abbrev pub book_in : List Slot → Option Text → List RecordContent
+book_in slots there = result_unwrap_or (book_told slots there) (blank_book slots)
+
+-- the file is there and cannot be read: it has more than 1,048,576 bytes, or is no key file
+abbrev pub is_unread : List Slot → Option Text → Bool
+is_unread slots there = is_err (book_told slots there)
+
+-- this was read of a file
+pub record IsReadOf (slots : List Slot) (there : Option Text) (read : StatusRead) : Type 0 where
+  pub book : read.book ≡ book_in slots there
+  pub unread : read.unread ≡ is_unread slots there
+
+-- nothing was read
+pub record IsBlank (slots : List Slot) (failed : Bool) (read : StatusRead) : Type 0 where
+  pub book : read.book ≡ blank_book slots
+  pub unread : read.unread ≡ failed
