@@ -36,7 +36,7 @@ use Rattle.boot_backends.proofs.Truth.{honest_splits, marks_left, saw, told}
 use Rattle.boot_backends.proofs.Worlds.{looked_through, through, written_through}
 
 -- what a stop leaves
-stopped : (boot : BootKind) (cs : List Command) (w u v : World) → Through boot cs w u → Crash u v → StoppedThrough boot cs w v
+pub stopped : (boot : BootKind) (cs : List Command) (w u v : World) → Through boot cs w u → Crash u v → StoppedThrough boot cs w v
 stopped boot cs w u v t crash = record {
   files = crash.files ∙ ap (λ (x : World). x.files) t.rest;
   writes = crash.writes ∙ ap (λ (x : World). x.writes) t.rest;

@@ -1,7 +1,7 @@
 mod Back
 mod Calendar
 mod Changing
-mod Digits
+pub mod Digits
 mod Facts
 mod Formed
 mod Groups
