@@ -55,6 +55,13 @@ impl StatusBook {
         StatusBook { alloc, records }
     }
 
+    /// How many slots the book has. It takes no memory.
+    pub fn len(&self) -> usize
+        ensures { result ≡ length self.now }
+    {
+        self.records.len()
+    }
+
     /// The record of the slot at this place. It takes no memory.
     pub fn slot_record(&self, slot: usize) -> &SlotRecord
         requires { slot < length self.now }
