@@ -1,10 +1,13 @@
 -- What the status file of a system says of its slots.
-use Rattle.std.specs.Prelude.{◌≡◌, Bool, List, length, map, replicate, Option, Some, None, Result, Ok}
+use Rattle.std.specs.Prelude.{◌≡◌, Bool, List, length, map, replicate, Option, Some, None, Result, Ok, option_and_then}
 use Rattle.std.specs.Result.{is_err, result_unwrap_or}
 use Rattle.keyfile.specs.Groups.{Text}
 use Rattle.keyfile.specs.declared.fault.KeyFault.{KeyFault}
+use Rattle.machine.specs.World.{file}
+use Rattle.machine.specs.declared.world.World.{World}
 use Rattle.slot_status.specs.Records.{RecordContent, book_of, no_record}
 use Rattle.system_conf.specs.declared.slot.Slot.{Slot}
+use Rattle.system_conf.specs.declared.system.System.{System}
 use Rattle.status_file.specs.declared.reading.StatusRead.{StatusRead}
 
 abbrev pub names_in : List Slot → List Text
@@ -36,3 +39,11 @@ pub record IsReadOf (slots : List Slot) (there : Option Text) (read : StatusRead
 pub record IsBlank (slots : List Slot) (failed : Bool) (read : StatusRead) : Type 0 where
   pub book : read.book ≡ blank_book slots
   pub unread : read.unread ≡ failed
+
+-- the bytes of the status file of a system, where it has one and that is there
+abbrev pub status_bytes : System → World → Option Text
+status_bytes s w = option_and_then (λ path. file w path) s.status_file
+
+-- this is what it says in a world
+abbrev pub IsStored : System → World → StatusRead → Type 0
+IsStored s w read = IsReadOf s.slots (status_bytes s w) read

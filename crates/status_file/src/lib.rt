@@ -4,5 +4,5 @@
 mod reading;
 mod text;
 
-pub use reading::{StatusRead, read_status};
+pub use reading::{StatusRead, read_status, stored_status};
 pub use text::status_text;

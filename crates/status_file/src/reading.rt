@@ -5,7 +5,7 @@ ghost use Rattle.machine.specs.Past.{Fails, world_now};
 ghost use Rattle.machine.specs.Runs.{ReadsOnce};
 ghost use Rattle.machine.specs.World.{file};
 ghost use Rattle.running_system.specs.Running.{FaultsCounted};
-ghost use Rattle.status_file.specs.Status.{IsBlank, IsReadOf, names_in};
+ghost use Rattle.status_file.specs.Status.{IsBlank, IsReadOf, IsStored, names_in};
 
 use machine::{CallStop, Fault, Machine, ReadStop};
 use slot_status::{StatusBook, read_book};
@@ -90,5 +90,25 @@ pub fn read_status<M: Machine>(
         Err(ReadStop::TooLong { .. }) => blank(alloc, system, true),
         Err(ReadStop::Failed) => Err(CallStop::Failed),
         Err(ReadStop::NoMemory) => Err(CallStop::NoMemory),
+    }
+}
+
+/// What the status file of the system says of its slots, by one call at most; a blank record of each
+/// where the system has none. It gives `Failed` where the read fails, and `NoMemory` where memory is
+/// out.
+pub fn stored_status<M: Machine>(
+    alloc: Global,
+    m: &mut M,
+    system: &System,
+) -> Result<StatusRead, CallStop>
+    ensures unchanged { Unchanged M.tells (M.past m.old) (M.past m.new) }
+    ensures answers { IsTrue M.tells → IfOk result (IsStored system.now (world_now (M.past m.old))) }
+    ensures all { IfOk result (λ read. length read.book ≡ length system.now.slots) }
+    ensures fails { Fails M.tells (M.past m.old) (M.past m.new) (call_fault Fault.Read result) }
+    ensures counts { FaultsCounted (M.faults m.old) (M.faults m.new) (M.wants m.old) (M.wants m.new) result }
+{
+    match &system.status_file {
+        Some(path) => read_status(alloc, m, system, path.as_str()),
+        None => blank(alloc, system, false),
     }
 }
