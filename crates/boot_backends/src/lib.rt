@@ -7,5 +7,5 @@ mod refusal;
 mod runs;
 
 pub use marks::{make_primary, mark_bad, mark_good};
-pub use reading::{primary, read_vars};
+pub use reading::{primary, read_vars, slot_in};
 pub use refusal::BootRefusal;

@@ -7,7 +7,7 @@ ghost use Rattle.boot_backends.specs.Systems.{PrimaryEnds, ReadEnds, ReadsOnly, 
 use crate::BootRefusal;
 use crate::runs::run_commands;
 use boot_commands::readings_of;
-use boot_model::{BootKind, Vars};
+use boot_model::Vars;
 use boot_state::primary_of;
 use machine::{Machine, Stop};
 use std::alloc::Global;
@@ -48,14 +48,15 @@ fn slot_with(slots: &[Slot], name: &str) -> Option<usize>
     slots.iter().position(|slot| has_boot_name(slot, name))
 }
 
-// The place of the slot that the boot loader boots next, by these variables.
-fn slot_in(boot: &BootKind, vars: &Vars, names: &[Text], slots: &[Slot]) -> Option<usize>
-    requires { names.now ≡ names_of slots.now }
-    ensures { result ≡ primary_slot boot.now vars.now slots.now }
+/// The place of the slot that the boot loader boots next, by these variables; None where it boots none
+/// of the slots. `names` are the system's bootnames.
+pub fn slot_in(system: &System, names: &[Text], vars: &Vars) -> Option<usize>
+    requires { names.now ≡ names_of system.now.slots }
+    ensures { result ≡ primary_slot system.now.boot vars.now system.now.slots }
 {
-    let at = primary_of(boot, vars, names)?;
+    let at = primary_of(&system.boot, vars, names)?;
     let name = names.get(at)?;
-    slot_with(slots, name.as_str())
+    slot_with(system.slots.as_slice(), name.as_str())
 }
 
 /// The place of the slot that the boot loader boots next, by the variables that `read_vars` reads; None
@@ -73,5 +74,5 @@ pub fn primary<M: Machine>(
 {
     let names = system.boot_names(alloc)?;
     let read = read_vars(alloc, m, system)?;
-    Ok(slot_in(&system.boot, &read, &names, system.slots.as_slice()))
+    Ok(slot_in(system, &names, &read))
 }
