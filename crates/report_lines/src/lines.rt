@@ -1,4 +1,4 @@
-ghost use Rattle.std.specs.Prelude.{◌≡◌, ◌++◌, [], IfOk, OnOk, decimal, map, unwrap_or};
+ghost use Rattle.std.specs.Prelude.{◌≡◌, ◌++◌, [], IfOk, OnOk, decimal, map, option_map, unwrap_or};
 ghost use Rattle.report_lines.specs.Lines as spec;
 
 use std::alloc::{AllocError, Global};
@@ -36,6 +36,22 @@ pub fn write_line_if_any(
 {
     match value {
         Some(value) => write_line(out, name, value.as_str()),
+        None => Ok(()),
+    }
+}
+
+/// Writes a line of a word, where there is one.
+#[tactic(auto, unfolding(crate::specs::Lines::line_if_any))]
+pub fn write_word_if_any(
+    out: &mut Vec<u8>,
+    name: &str,
+    word: Option<&str>,
+) -> Result<(), AllocError>
+    ensures { OnOk result
+        (out.new.items ≡ out.old.items ++ spec.line_if_any name.now (option_map (λ word. word.now) word.entry)) }
+{
+    match word {
+        Some(word) => write_line(out, name, word),
         None => Ok(()),
     }
 }
