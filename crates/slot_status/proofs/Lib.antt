@@ -5,6 +5,7 @@ pub mod Digits
 mod Facts
 mod Formed
 mod Groups
+mod Lengths
 mod Names
 mod Putting
 mod Times

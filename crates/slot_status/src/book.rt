@@ -151,12 +151,13 @@ impl StatusBook {
     /// The text of the status file, as `read_book` reads it: a group `[slot.<name>]` for each slot of which
     /// anything is known, with its keys in this order: `bundle.compatible`, `bundle.version`,
     /// `bundle.description`, `bundle.build`, `status`, `sha256`, `size`, `installed.timestamp`,
-    /// `installed.count`, `activated.timestamp`, `activated.count`. A count of 0 is not written. The only
-    /// error is out of memory.
+    /// `installed.count`, `activated.timestamp`, `activated.count`. A count of 0 is not written. The text
+    /// of 64 slots is short enough to be read again. The only error is out of memory.
     pub fn text(&self, names: &[Text]) -> Result<Vec<u8>, NoMemory>
         requires count { length names.now ≡ length self.now }
         requires names { IsTrue (are_slot_names names.now) }
         ensures text { IfOk result (λ text. text.items ≡ book_text names.now self.now) }
+        ensures short { IfOk result (λ text. length names.now ≤ 64 → length text.items ≤ 1048576) }
         ensures reads_back { IfOk result (λ text. length text.items ≤ 1048576 → book_of names.now text.items ≡ Ok self.now) }
     {
         let mut file = KeyFile::new(self.alloc)?;
