@@ -5,7 +5,7 @@ use Rattle.std.specs.List.{list_all}
 use Rattle.std.specs.Str.{bytes_eq}
 use Rattle.std.proofs.lemmas.Bool.{and_parts, true≢false}
 use Rattle.std.proofs.lemmas.Bool.Decides.{nat_tests}
-use Rattle.hex.specs.Hex.{IsBytes, encode_lower}
+use Rattle.hex.specs.Hex.{IsBytes}
 use Rattle.hex.proofs.HexLemmas.{decode_sized-encode_lower}
 use Rattle.updater_text.specs.Digests.{digest_from, digest_of}
 use Rattle.updater_text.specs.Numbers.{number_of}
@@ -21,16 +21,14 @@ use Rattle.manifest.specs.declared.bundle_text.BundleText.{BundleText}
 use Rattle.slot_status.specs.Books.{record_content, record_contents}
 use Rattle.slot_status.specs.Records.{RecordContent, bundle_by, count_of, record_by, record_of, slot_group, text_of}
 use Rattle.slot_status.specs.Sound.{is_digest}
-use Rattle.slot_status.specs.Texts.{Row, book_groups, bundle_rows, count_text, entries_of, group_of, has_entry, rows, state_rows, time_rows}
+use Rattle.slot_status.specs.Texts.{Row, book_groups, bundle_rows, count_text, digest_text, entries_of, group_of, has_entry, rows, state_rows, time_rows}
 use Rattle.slot_status.specs.declared.slot_record.SlotRecord.{SlotRecord}
+use Rattle.slot_status.proofs.Apart.{apart_from, in_front, in_rest, keys}
 use Rattle.slot_status.proofs.Digits.{number_of-decimal}
 use Rattle.slot_status.proofs.Facts.{facts}
 use Rattle.slot_status.proofs.Groups.{only_slots}
 
 -- ---- the values of a group's keys
-
-abbrev keys : List Row → List Text
-keys = map (λ (row : Row). row.0)
 
 -- the value of a key among rows
 abbrev value_of : List Row → Text → Option Text
@@ -78,7 +76,7 @@ small_bytes [] all k = omega arith
 small_bytes (b ∷ bytes) all zero = ltb-true b 256 (and_parts (nat_lt b 256) (list_all (λ (c : ℕ). nat_lt c 256) bytes) all).0
 small_bytes (b ∷ bytes) all (suc k) = small_bytes bytes (and_parts (nat_lt b 256) (list_all (λ (c : ℕ). nat_lt c 256) bytes) all).1 k
 
-digest_back : (digest : Option Digest) → option_map_or is_digest digest true ≡ true → option_and_then digest_of (option_map (λ (d : Digest). encode_lower d.0) digest) ≡ digest
+digest_back : (digest : Option Digest) → option_map_or is_digest digest true ≡ true → option_and_then digest_of (digest_text digest) ≡ digest
 digest_back None formed = refl
 digest_back (Some d) formed =
     let parts = and_parts (eqb (length d.0) 32) (list_all (λ (b : ℕ). nat_lt b 256) d.0) formed in
@@ -163,18 +161,7 @@ of_later names book n m r key apart = go (has_entry (group_of (n, r)))
 
 map_same : (f g : Text → RecordContent) (names : List Text) → ((m : Text) → is_in names m ≡ true → f m ≡ g m) → map f names ≡ map g names
 map_same f g [] each = refl
-map_same f g (n ∷ names) each = λ i. each n (λ j. equal_text n n refl j || is_in names n) i ∷ map_same f g names (λ m there. each m ((λ j. bytes_eq m n || there j) ∙ or_true (bytes_eq m n))) i
-  where
-    or_true : (b : Bool) → (b || true) ≡ true
-    or_true true = refl
-    or_true false = refl
-
-apart_from : (names : List Text) (n m : Text) → is_in names n ≡ false → is_in names m ≡ true → bytes_eq m n ≡ false
-apart_from names n m absent present = go (bytes_eq m n) refl
-  where
-    go : (b : Bool) → bytes_eq m n ≡ b → b ≡ false
-    go true is = absurd (true≢false (sym present ∙ ap (is_in names) (same_text m n is) ∙ absent))
-    go false is = refl
+map_same f g (n ∷ names) each = λ i. each n (in_front n names) i ∷ map_same f g names (λ m there. each m (in_rest m n names there)) i
 
 -- the groups of a book say the records of its slots
 pub book_back : (names : List Text) (records : List SlotRecord) → all_distinct names ≡ true → length names ≡ length records

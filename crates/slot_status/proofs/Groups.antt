@@ -7,7 +7,8 @@ use Rattle.std.proofs.lemmas.List.{length-map, length-take, map-append, take_mor
 use Rattle.std.proofs.lemmas.List.Elements.{filter-append}
 use Rattle.keyfile.specs.Groups.{Text, all_distinct, has_group}
 use Rattle.keyfile.proofs.Bools.{both, not_true}
-use Rattle.keyfile.proofs.Distinct.{equal_text, is_in, same_text}
+use Rattle.keyfile.proofs.Distinct.{is_in}
+use Rattle.slot_status.proofs.Apart.{apart_from, in_front, in_rest}
 use Rattle.slot_status.specs.Books.{record_content, record_contents}
 use Rattle.slot_status.specs.Records.{RecordContent, slot_group}
 use Rattle.slot_status.specs.Texts.{book_groups, group_of, has_entry}
@@ -54,26 +55,16 @@ is_in-take (m ∷ names) (suc i) n absent = go (bytes_eq n m) absent (λ h. is_i
 
 is_in-get : (names : List Text) (i : ℕ) (n : Text) → i < length names → is_in names (get_or names i n) ≡ true
 is_in-get [] i n within = absurd (omega (arith, within))
-is_in-get (m ∷ names) zero n within = λ i. equal_text m m refl i || is_in names m
-is_in-get (m ∷ names) (suc i) n within = (λ j. bytes_eq (get_or names i n) m || is_in-get names i n (omega (arith, within)) j) ∙ or_true (bytes_eq (get_or names i n) m)
-  where
-    or_true : (b : Bool) → (b || true) ≡ true
-    or_true true = refl
-    or_true false = refl
+is_in-get (m ∷ names) zero n within = in_front m names
+is_in-get (m ∷ names) (suc i) n within = in_rest (get_or names i n) m names (is_in-get names i n (omega (arith, within)))
 
 -- a name is none of those before it
 earlier : (names : List Text) (i : ℕ) (n : Text) → all_distinct names ≡ true → i < length names → is_in (take i names) (get_or names i n) ≡ false
 earlier names zero n once within = refl
 earlier [] (suc i) n once within = absurd (omega (arith, within))
-earlier (m ∷ names) (suc i) n once within = λ j. apart j || earlier names i n (both _ _ once).1 (omega (arith, within)) j
-  where
-    apart : bytes_eq (get_or names i n) m ≡ false
-    apart = go (bytes_eq (get_or names i n) m) refl
-      where
-        go : (b : Bool) → bytes_eq (get_or names i n) m ≡ b → b ≡ false
-        go true is =
-            absurd (true≢false (sym (is_in-get names i n (omega (arith, within))) ∙ ap (is_in names) (same_text (get_or names i n) m is) ∙ not_true _ (both _ _ once).0))
-        go false is = refl
+earlier (m ∷ names) (suc i) n once within =
+    let less : i < length names = omega (arith, within) in
+    λ j. apart_from names m (get_or names i n) (not_true _ (both _ _ once).0) (is_in-get names i n less) j || earlier names i n (both _ _ once).1 less j
 
 -- the groups of a book are those of its slots alone
 pub only_slots : (names : List Text) (book : List RecordContent) (n : Text) → is_in names n ≡ false → has_group (book_groups names book) (slot_group n) ≡ false

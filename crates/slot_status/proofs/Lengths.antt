@@ -4,7 +4,7 @@ use Rattle.std.specs.Option.{option_map_or}
 use Rattle.std.specs.List.{flat_map, list_all}
 use Rattle.std.proofs.lemmas.Bool.{and_parts}
 use Rattle.std.proofs.lemmas.Fmt.{length-decimal-le}
-use Rattle.hex.specs.Hex.{encode_lower, lower_digits}
+use Rattle.hex.specs.Hex.{lower_digits}
 use Rattle.hex.proofs.HexLemmas.{length-encode_with}
 use Rattle.updater_text.specs.declared.digest.Digest.{Digest}
 use Rattle.keyfile.specs.Canonical.{canonical, entry_text, group_text}
@@ -15,7 +15,7 @@ use Rattle.manifest.specs.Reads.{bundle_content}
 use Rattle.manifest.specs.Sound.{is_bundle_text, is_text_if_any}
 use Rattle.manifest.specs.declared.bundle_text.BundleText.{BundleText}
 use Rattle.slot_status.specs.Sound.{is_digest}
-use Rattle.slot_status.specs.Texts.{Row, book_groups, book_text, count_text, entries_of, group_of, has_entry, rows}
+use Rattle.slot_status.specs.Texts.{Row, book_groups, book_text, count_text, digest_text, entries_of, group_of, has_entry, rows}
 use Rattle.slot_status.specs.Books.{record_content, record_contents}
 use Rattle.slot_status.specs.Records.{slot_group}
 use Rattle.conf_forms.specs.SlotNames.{is_slot_name}
@@ -89,7 +89,7 @@ text_within : (text : Option Text) → is_text_if_any text ≡ true → IsWithin
 text_within None formed = tt
 text_within (Some text) formed = leb-true (length text) 1024 (and_parts (is_text text) (is_entry_value text) formed).0
 
-digest_within : (digest : Option Digest) → option_map_or is_digest digest true ≡ true → IsWithin 64 (option_map (λ (d : Digest). encode_lower d.0) digest)
+digest_within : (digest : Option Digest) → option_map_or is_digest digest true ≡ true → IsWithin 64 (digest_text digest)
 digest_within None formed = tt
 digest_within (Some d) formed =
     let long = eqb-true (length d.0) 32 (and_parts (eqb (length d.0) 32) (list_all (λ (b : ℕ). nat_lt b 256) d.0) formed).0 in

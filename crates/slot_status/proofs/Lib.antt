@@ -1,3 +1,4 @@
+mod Apart
 mod Back
 mod Calendar
 mod Changing

@@ -7,8 +7,9 @@ use Rattle.std.proofs.lemmas.List.{append-nil, map-append}
 use Rattle.std.proofs.lemmas.List.Folds.{list_any-append}
 use Rattle.keyfile.specs.Groups.{Entry, Group, Text, all_distinct, group_place, has_group, put_at, put_entry, put_in}
 use Rattle.keyfile.proofs.Bools.{both, not_true}
-use Rattle.keyfile.proofs.Distinct.{equal_text, is_in, same_text}
+use Rattle.keyfile.proofs.Distinct.{equal_text, is_in}
 use Rattle.keyfile.proofs.Maps.{put_at-last, put_in-new, put_in-there}
+use Rattle.slot_status.proofs.Apart.{apart_from, in_front, in_rest, keys}
 use Rattle.slot_status.specs.Puts.{put_rows}
 use Rattle.slot_status.specs.Texts.{Row, entries_of, has_entry}
 
@@ -50,9 +51,6 @@ put_last gs n es k v new once =
 
 -- ---- all keys of a record
 
-abbrev keys : List Row → List Text
-keys = map (λ (row : Row). row.0)
-
 abbrev entry_keys : List Entry → List Text
 entry_keys = map (λ (e : Entry). e.0)
 
@@ -60,26 +58,14 @@ entry_keys = map (λ (e : Entry). e.0)
 abbrev AreFresh : List Row → List Entry → Type 0
 AreFresh rs es = (k : Text) → is_in (keys rs) k ≡ true → is_in (entry_keys es) k ≡ false
 
-or_true : (b : Bool) → (b || true) ≡ true
-or_true true = refl
-or_true false = refl
-
 fresh_later : (row : Row) (rs : List Row) (es : List Entry) → AreFresh (row ∷ rs) es → AreFresh rs es
-fresh_later row rs es fresh k in_rs = fresh k ((λ i. bytes_eq k row.0 || in_rs i) ∙ or_true (bytes_eq k row.0))
-
--- a key that comes once is none of the later ones
-other_key : (rs : List Row) (k other : Text) → is_in (keys rs) k ≡ false → is_in (keys rs) other ≡ true → bytes_eq other k ≡ false
-other_key rs k other absent present = go (bytes_eq other k) refl
-  where
-    go : (b : Bool) → bytes_eq other k ≡ b → b ≡ false
-    go true is = absurd (true≢false (sym present ∙ ap (is_in (keys rs)) (same_text other k is) ∙ absent))
-    go false is = refl
+fresh_later row rs es fresh k in_rs = fresh k (in_rest k row.0 (keys rs) in_rs)
 
 fresh_after : (k v : Text) (rs : List Row) (es : List Entry) → is_in (keys rs) k ≡ false → AreFresh rs es → AreFresh rs (es ++ (k, v) ∷ [])
 fresh_after k v rs es absent fresh other present =
     ap (λ (names : List Text). is_in names other) (map-append (λ (e : Entry). e.0) es ((k, v) ∷ []))
     ∙ list_any-append (bytes_eq other) (entry_keys es) (k ∷ [])
-    ∙ (λ i. fresh other present i || (other_key rs k other absent present i || false))
+    ∙ (λ i. fresh other present i || (apart_from (keys rs) k other absent present i || false))
 
 put_more : (gs : List Group) (n : Text) (es : List Entry) (rs : List Row) → has_group gs n ≡ false → all_distinct (keys rs) ≡ true → AreFresh rs es
     → put_rows n (gs ++ (n, es) ∷ []) rs ≡ gs ++ (n, es ++ entries_of rs) ∷ []
@@ -87,7 +73,7 @@ put_more gs n es [] new once fresh = ap (λ (xs : List Entry). gs ++ (n, xs) ∷
 put_more gs n es ((k, None) ∷ rs) new once fresh = put_more gs n es rs new (both _ _ once).1 (fresh_later (k, None) rs es fresh)
 put_more gs n es ((k, Some v) ∷ rs) new once fresh =
     let absent = not_true _ (both _ _ once).0 in
-    ap (λ (groups : List Group). put_rows n groups rs) (put_last gs n es k v new (fresh k (λ i. equal_text k k refl i || is_in (keys rs) k)))
+    ap (λ (groups : List Group). put_rows n groups rs) (put_last gs n es k v new (fresh k (in_front k (keys rs))))
     ∙ put_more gs n (es ++ (k, v) ∷ []) rs new (both _ _ once).1 (fresh_after k v rs es absent (fresh_later (k, Some v) rs es fresh))
     ∙ ap (λ (xs : List Entry). gs ++ (n, xs) ∷ []) (append_assoc es ((k, v) ∷ []) (entries_of rs))
 
@@ -95,7 +81,7 @@ kept : (n : Text) (e : Entry) (es : List Entry) → has_entry (n, e ∷ es) ≡ 
 kept n e es = grind (arith, nat_tests)
 
 one_fresh : (k v : Text) (rs : List Row) → is_in (keys rs) k ≡ false → AreFresh rs ((k, v) ∷ [])
-one_fresh k v rs absent other present = λ i. other_key rs k other absent present i || false
+one_fresh k v rs absent other present = λ i. apart_from (keys rs) k other absent present i || false
 
 -- the group goes last with the keys that have a value, and is not there where none has
 pub put_new : (gs : List Group) (n : Text) (rs : List Row) → has_group gs n ≡ false → all_distinct (keys rs) ≡ true

@@ -8,9 +8,10 @@ abbrev pub put_if_any : Text → List Group → Text → Option Text → List Gr
 put_if_any group groups key (Some value) = put_in groups group key value
 put_if_any group groups key None = groups
 
+-- the same of a row
 abbrev pub put_row : Text → List Group → Row → List Group
 put_row group groups row = put_if_any group groups row.0 row.1
 
--- and so do all of these
+-- and of all rows, one after another
 abbrev pub put_rows : Text → List Group → List Row → List Group
 put_rows group groups given = fold (put_row group) groups given

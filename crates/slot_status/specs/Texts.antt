@@ -3,6 +3,7 @@ use Rattle.std.specs.Prelude.{ℕ, Bool, ◌==◌, ◌&&◌, not, nat_lt, List, 
 use Rattle.std.specs.List.{list_all, zip}
 use Rattle.conf_forms.specs.SlotNames.{is_slot_name}
 use Rattle.hex.specs.Hex.{encode_lower}
+use Rattle.updater_text.specs.declared.digest.Digest.{Digest}
 use Rattle.keyfile.specs.Canonical.{canonical}
 use Rattle.keyfile.specs.Groups.{Text, Entry, Group, all_distinct}
 use Rattle.manifest.specs.Contents.{BundleContent}
@@ -24,11 +25,15 @@ bundle_rows bundle =
 abbrev pub count_text : ℕ → Option Text
 count_text count = if nat_lt 0 count then Some (decimal count) else None
 
+-- a digest is written in lower case
+abbrev pub digest_text : Option Digest → Option Text
+digest_text digest = option_map (λ d. encode_lower d.0) digest
+
 -- the keys of the state of the slot, and of the image that it was installed from
 abbrev pub state_rows : RecordContent → List Row
 state_rows r =
     (codes "status", r.status)
-    ∷ (codes "sha256", option_map (λ d. encode_lower d.0) r.digest)
+    ∷ (codes "sha256", digest_text r.digest)
     ∷ (codes "size", option_map decimal r.size) ∷ []
 
 -- the keys of when and how often

@@ -158,7 +158,8 @@ impl StatusBook {
         requires names { IsTrue (are_slot_names names.now) }
         ensures text { IfOk result (λ text. text.items ≡ book_text names.now self.now) }
         ensures short { IfOk result (λ text. length names.now ≤ 64 → length text.items ≤ 1048576) }
-        ensures reads_back { IfOk result (λ text. length text.items ≤ 1048576 → book_of names.now text.items ≡ Ok self.now) }
+        ensures reads_back { IfOk result
+            (λ text. length text.items ≤ 1048576 → book_of names.now text.items ≡ Ok self.now) }
     {
         let mut file = KeyFile::new(self.alloc)?;
         for slot in 0..names.len() {

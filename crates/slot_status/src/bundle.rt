@@ -15,7 +15,8 @@ pub fn read_bundle(
     file: &KeyFile,
     group: &str,
 ) -> Result<Option<BundleText>, NoMemory>
-    ensures { IfOk result (λ b. option_map bundle_content b ≡ bundle_by (λ key. get_in file.now group.now key)) }
+    ensures { IfOk result
+        (λ b. option_map bundle_content b ≡ bundle_by (λ key. get_in file.now group.now key)) }
 {
     let Some(compatible) = read_text(alloc, file, group, "bundle.compatible")? else {
         return Ok(None);
@@ -41,7 +42,7 @@ fn copy_if_any(alloc: Global, text: &Option<Text>) -> Result<Option<Text>, NoMem
     }
 }
 
-/// The same once more.
+/// What a bundle says of itself, once more.
 pub fn copy_bundle(alloc: Global, bundle: &BundleText) -> Result<BundleText, NoMemory>
     ensures { IfOk result (λ b. bundle_content b ≡ bundle_content bundle.now) }
 {

@@ -29,7 +29,8 @@ impl SlotRecord {
         requires ok { ok ≡ codes "ok" }
         requires time { IsTrue (is_bundle_text time) }
         requires more { self.old.installed_count < 4294967295 }
-        ensures { record_content self.new ≡ finish_record (bundle_content bundle) (option_copied file.entry) time (record_content self.old) }
+        ensures { record_content self.new
+            ≡ finish_record (bundle_content bundle) (option_copied file.entry) time (record_content self.old) }
     {
         self.bundle = Some(bundle);
         self.status = Some(ok);

@@ -6,7 +6,7 @@ ghost use Rattle.slot_status.specs.Sound.{is_digest};
 use manifest::ImageFile;
 use updater_text::Digest;
 
-// Each byte of an array fits: this walk reads them, which is the only way to say it.
+// What its type says of an array is known once its bytes are read.
 fn bytes_fit(bytes: &[u8; 32])
     ensures count { length bytes.now ≡ 32 }
     ensures fit { IsBytes bytes.now }

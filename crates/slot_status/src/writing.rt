@@ -1,6 +1,5 @@
 ghost use Rattle.std.specs.Prelude.{◌≡◌, ◌^◌, IsTrue, OnOk, codes, decimal, nat_lt, option_map, Some, true};
 ghost use Rattle.std.specs.Option.{option_map_or};
-ghost use Rattle.hex.specs.Hex.{encode_lower};
 ghost use Rattle.keyfile.specs.Groups.{is_entry_value, is_key, is_name};
 ghost use Rattle.manifest.specs.Reads.{bundle_content};
 ghost use Rattle.manifest.specs.Sound.{is_text_if_any};
@@ -8,7 +7,7 @@ ghost use Rattle.slot_status.specs.Books.{record_content};
 ghost use Rattle.slot_status.specs.Puts.{put_if_any, put_rows};
 ghost use Rattle.slot_status.specs.Records.{slot_group};
 ghost use Rattle.slot_status.specs.Sound.{is_digest};
-ghost use Rattle.slot_status.specs.Texts.{bundle_rows, count_text, rows, state_rows, time_rows};
+ghost use Rattle.slot_status.specs.Texts.{bundle_rows, count_text, digest_text, rows, state_rows, time_rows};
 
 use crate::SlotRecord;
 use crate::reading::slot_group;
@@ -79,7 +78,7 @@ fn put_digest(
 ) -> Result<(), NoMemory>
     requires group { IsTrue (is_name group.now) }
     requires digest { IsTrue (option_map_or is_digest digest true) }
-    ensures { OnOk result (file.new ≡ put_if_any group.now file.old (codes "sha256") (option_map (λ d. encode_lower d.0) digest)) }
+    ensures { OnOk result (file.new ≡ put_if_any group.now file.old (codes "sha256") (digest_text digest)) }
 {
     match digest {
         Some(digest) => {
@@ -93,7 +92,8 @@ fn put_digest(
 // Gives the keys of a group what a bundle said of itself, where that is known.
 fn put_bundle(file: &mut KeyFile, group: &str, bundle: &Option<BundleText>) -> Result<(), NoMemory>
     requires { IsTrue (is_name group.now) }
-    ensures { OnOk result (file.new ≡ put_rows group.now file.old (bundle_rows (option_map bundle_content bundle.now))) }
+    ensures { OnOk result
+        (file.new ≡ put_rows group.now file.old (bundle_rows (option_map bundle_content bundle.now))) }
 {
     match bundle {
         Some(bundle) => put_bundle_text(file, group, bundle),
@@ -103,7 +103,8 @@ fn put_bundle(file: &mut KeyFile, group: &str, bundle: &Option<BundleText>) -> R
 
 fn put_bundle_text(file: &mut KeyFile, group: &str, bundle: &BundleText) -> Result<(), NoMemory>
     requires { IsTrue (is_name group.now) }
-    ensures { OnOk result (file.new ≡ put_rows group.now file.old (bundle_rows (Some (bundle_content bundle.now)))) }
+    ensures { OnOk result
+        (file.new ≡ put_rows group.now file.old (bundle_rows (Some (bundle_content bundle.now)))) }
 {
     file.put(group, "bundle.compatible", bundle.compatible.as_str())?;
     put_text(file, group, "bundle.version", &bundle.version)?;
@@ -119,7 +120,8 @@ fn put_state(
     record: &SlotRecord,
 ) -> Result<(), NoMemory>
     requires { IsTrue (is_name group.now) }
-    ensures { OnOk result (file.new ≡ put_rows group.now file.old (state_rows (record_content «record».now))) }
+    ensures { OnOk result
+        (file.new ≡ put_rows group.now file.old (state_rows (record_content «record».now))) }
 {
     put_text(file, group, "status", &record.status)?;
     put_digest(alloc, file, group, record.digest)?;
@@ -134,7 +136,8 @@ fn put_times(
     record: &SlotRecord,
 ) -> Result<(), NoMemory>
     requires { IsTrue (is_name group.now) }
-    ensures { OnOk result (file.new ≡ put_rows group.now file.old (time_rows (record_content «record».now))) }
+    ensures { OnOk result
+        (file.new ≡ put_rows group.now file.old (time_rows (record_content «record».now))) }
 {
     put_text(file, group, "installed.timestamp", &record.installed_time)?;
     put_count(
@@ -162,7 +165,8 @@ pub fn put_slot(
     record: &SlotRecord,
 ) -> Result<(), NoMemory>
     requires { IsTrue (is_name (slot_group name.now)) }
-    ensures { OnOk result (file.new ≡ put_rows (slot_group name.now) file.old (rows (record_content «record».now))) }
+    ensures { OnOk result
+        (file.new ≡ put_rows (slot_group name.now) file.old (rows (record_content «record».now))) }
 {
     let group = slot_group(alloc, name.as_str())?;
     put_bundle(file, group.as_str(), &record.bundle)?;
