@@ -9,7 +9,7 @@ use Rattle.slot_status.specs.Texts.{Row}
 abbrev pub keys : List Row → List Text
 keys = map (λ (row : Row). row.0)
 
-or_true : (b : Bool) → (b || true) ≡ true
+pub or_true : (b : Bool) → (b || true) ≡ true
 or_true true = refl
 or_true false = refl
 

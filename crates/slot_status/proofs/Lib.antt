@@ -1,12 +1,13 @@
 mod Apart
 mod Back
 mod Calendar
-mod Changing
+pub mod Changing
 pub mod Digits
 mod Facts
 mod Formed
 mod Groups
 mod Lengths
+pub mod Named
 mod Names
 mod Putting
 mod Times
