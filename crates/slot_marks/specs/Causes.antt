@@ -6,6 +6,8 @@ use Rattle.boot_backends.specs.declared.refusal.BootRefusal.{BootRefusal}
 use Rattle.boot_backends.specs.declared.refusal.BootRefusal.TheVariants.{Program, Output, Unlisted}
 use Rattle.child_steps.specs.Causes.{ended_text}
 use Rattle.system_conf.specs.declared.slot.Slot.{Slot}
+use Rattle.slot_status.specs.Causes.{status_cause}
+use Rattle.status_file.specs.Status.{names_in}
 use Rattle.slot_marks.specs.declared.refusal.MarkRefusal.{MarkRefusal}
 use Rattle.slot_marks.specs.declared.refusal.MarkRefusal.TheVariants as mark
 
@@ -29,4 +31,5 @@ mark_cause slots (mark.NoSuchSlot text) = codes "no such slot: " ++ text
 mark_cause slots mark.NoOther = codes "no other slot"
 mark_cause slots (mark.ManyOther count) = decimal count ++ codes " other slots"
 mark_cause slots (mark.NoBootName at) = codes "slot " ++ (name_at slots at ++ codes " has no bootname")
+mark_cause slots (mark.Status why) = status_cause (names_in slots) why
 mark_cause slots (mark.Boot why) = boot_cause why

@@ -1,3 +1,5 @@
-pub mod Choice
+pub mod Answers
 pub mod Causes
+pub mod Choice
 pub mod Marking
+pub mod Noting

@@ -1,11 +1,14 @@
 ghost use Rattle.std.specs.Prelude.{◌≡◌, ◌++◌, IfOk, codes, decimal};
 ghost use Rattle.child_steps.specs.Causes.{ended_text};
+ghost use Rattle.slot_status.specs.Causes.{status_cause};
+ghost use Rattle.status_file.specs.Status.{names_in};
 ghost use Rattle.slot_marks.specs.Causes as spec;
 
 use crate::MarkRefusal;
 use boot_backends::BootRefusal;
 use child_steps::ended_text;
 use machine::Ended;
+use slot_status::{StatusRefusal, status_cause};
 use std::alloc::Global;
 use system_conf::{Slot, System};
 use updater_text::{NoMemory, Text};
@@ -91,6 +94,17 @@ fn no_bootname_cause(alloc: Global, slots: &[Slot], at: usize) -> Result<Text, N
     Ok(Text::from_string(cause))
 }
 
+fn status_cause_of(
+    alloc: Global,
+    system: &System,
+    refusal: &StatusRefusal,
+) -> Result<Text, NoMemory>
+    ensures { IfOk result (λ t. t ≡ status_cause (names_in system.now.slots) refusal.now) }
+{
+    let names = system.slot_names(alloc)?;
+    status_cause(alloc, &names, refusal)
+}
+
 /// Why a slot is not marked, in one line without its end: slots are named by their places in the
 /// configuration. The only error is out of memory.
 pub fn mark_cause(alloc: Global, system: &System, refusal: &MarkRefusal) -> Result<Text, NoMemory>
@@ -103,6 +117,7 @@ pub fn mark_cause(alloc: Global, system: &System, refusal: &MarkRefusal) -> Resu
         MarkRefusal::NoBootName { slot } => {
             no_bootname_cause(alloc, system.slots.as_slice(), *slot)
         }
+        MarkRefusal::Status(refusal) => status_cause_of(alloc, system, refusal),
         MarkRefusal::Boot(refusal) => boot_cause(alloc, refusal),
     }
 }

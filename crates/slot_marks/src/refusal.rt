@@ -1,4 +1,5 @@
 use boot_backends::BootRefusal;
+use slot_status::StatusRefusal;
 use updater_text::Text;
 
 /// Why a slot is not marked.
@@ -13,6 +14,8 @@ pub enum MarkRefusal {
     ManyOther { count: u64 },
     /// The slot at this place has no bootname.
     NoBootName { slot: usize },
+    /// The status file cannot note that the slot was activated.
+    Status(StatusRefusal),
     /// The programs of the boot loader did not mark its bootname.
     Boot(BootRefusal),
 }

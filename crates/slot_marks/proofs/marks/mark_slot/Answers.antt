@@ -1,9 +1,10 @@
-use Rattle.std.proofs.Common.{refl}
-use Rattle.slot_marks.proofs.Marking.{bootname_listed, marks_done, marks_nothing, marks_stopped, stopped_there}
+use Rattle.std.proofs.Common.{None, refl}
+use Rattle.slot_marks.proofs.Joining.{marks_done, marks_nothing, marks_stopped}
+use Rattle.slot_marks.proofs.SlotsNamed.{bootname_listed, stopped_there}
 use Rattle.slot_marks.proofs.marks.mark_slot.Goals as goal
 
 pub returns-in-Err-clause-marks : goal.returns-in-Err-clause-marks
-returns-in-Err-clause-marks g c = marks_nothing _ c.args.system.now c.args.action c.args.at _
+returns-in-Err-clause-marks g c = marks_nothing _ c.args.system.now c.args.action None c.args.at _
 
 pub mark_name-requires : goal.mark_name-requires
 mark_name-requires g c =

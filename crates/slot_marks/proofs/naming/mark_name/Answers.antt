@@ -1,4 +1,4 @@
-use Rattle.slot_marks.proofs.marks.mark_name.Goals as goal
+use Rattle.slot_marks.proofs.naming.mark_name.Goals as goal
 
 pub returns-in-Good-clause-marks : goal.returns-in-Good-clause-marks
 returns-in-Good-clause-marks g c = rw c.in-Good.is (record {
@@ -16,4 +16,13 @@ returns-in-Bad-clause-marks g c = rw c.in-Bad.is (record {
   leads = c.mark_bad.ensures.leads;
   causes = c.mark_bad.ensures.causes;
   fails = c.mark_bad.ensures.fails;
+})
+
+pub returns-in-Active-clause-marks : goal.returns-in-Active-clause-marks
+returns-in-Active-clause-marks g c = rw c.in-Active.is (record {
+  leaves = c.make_primary.ensures.leaves;
+  others = c.make_primary.ensures.others;
+  leads = c.make_primary.ensures.leads;
+  causes = c.make_primary.ensures.causes;
+  fails = c.make_primary.ensures.fails;
 })
