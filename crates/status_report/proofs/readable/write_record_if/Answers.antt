@@ -18,9 +18,9 @@ pub returns-else-detailed : goal.returns-else-detailed
 returns-else-detailed c =
     let known = record_lines (record_at c.args.book.now c.args.at) in
     elim c.else-detailed.branch [
-      else-detailed-via-then-detailed+else-at-len w ↦
-        nothing_more _ _
-        (ap (λ (b : Bool). text_if b known) w.if-detailed.true
-        ∙ ap record_lines (get_or_past c.args.book.now c.args.at no_record (omega (arith, w.if-at-len.false, w.len.ensures))) ∙ no_lines) |
-      else-detailed-via-else-detailed w ↦ nothing_more _ _ (ap (λ (b : Bool). text_if b known) w.if-detailed.false)
+      | else-detailed-via-then-detailed+else-at-len w ↦
+          nothing_more _ _
+          (ap (λ (b : Bool). text_if b known) w.if-detailed.true
+          ∙ ap record_lines (get_or_past c.args.book.now c.args.at no_record (omega (arith, w.if-at-len.false, w.len.ensures))) ∙ no_lines)
+      | else-detailed-via-else-detailed w ↦ nothing_more _ _ (ap (λ (b : Bool). text_if b known) w.if-detailed.false)
     ]
