@@ -165,28 +165,29 @@ fn is_cause(alloc: Global, system: &System, refusal: &MarkRefusal, wanted: &str)
     }
 }
 
-fn is_told(
-    alloc: Global,
-    system: &System,
-    marked: &Result<Marked, Stop<MarkRefusal>>,
-    told: &Told,
-) -> bool {
-    match (marked, told) {
-        (Ok(marked), Told::Done(slot, line, unread)) => {
+fn is_done(marked: &Marked, told: &Told) -> bool {
+    match told {
+        Told::Done(slot, line, unread) => {
             marked.slot == *slot && marked.line.as_str() == *line && marked.book_unread == *unread
         }
-        (Err(Stop::Refused(refusal)), Told::Refused(cause)) => {
-            is_cause(alloc, system, refusal, cause)
-        }
-        (Err(Stop::Outside(kind)), Told::Fault(fault)) => *kind == *fault,
+        _ => false,
+    }
+}
+
+fn is_stop(alloc: Global, system: &System, stop: &Stop<MarkRefusal>, told: &Told) -> bool {
+    match (stop, told) {
+        (Stop::Refused(refusal), Told::Refused(cause)) => is_cause(alloc, system, refusal, cause),
+        (Stop::Outside(kind), Told::Fault(fault)) => *kind == *fault,
         _ => false,
     }
 }
 
 // Whether a mark tells this.
 pub fn tells(alloc: Global, m: &mut Bench, system: &System, case: &Case, told: &Told) -> bool {
-    let marked = mark(alloc, m, system, case.given, case.action, case.who);
-    is_told(alloc, system, &marked, told)
+    match mark(alloc, m, system, case.given, case.action, case.who) {
+        Ok(marked) => is_done(&marked, told),
+        Err(stop) => is_stop(alloc, system, &stop, told),
+    }
 }
 
 // Whether a child was run with these words.
