@@ -1,0 +1,6 @@
+pub mod Steps
+pub mod TypeLaws
+pub mod Signatures
+pub mod TypeSteps
+pub mod Again
+pub mod Found

@@ -1,0 +1,6 @@
+pub mod Types
+pub mod Plain
+pub mod Spelling
+pub mod Reading
+pub mod Gives
+pub mod View

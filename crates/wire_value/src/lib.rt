@@ -1,0 +1,11 @@
+//! The values of D-Bus messages as bytes: their types, signatures, reader and writer.
+#![tactic(auto)]
+
+mod error;
+mod place;
+mod types;
+mod value;
+
+pub use error::ReadError;
+pub use place::Place;
+pub use value::Value;
