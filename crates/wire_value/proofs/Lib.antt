@@ -4,3 +4,5 @@ pub mod Signatures
 pub mod TypeSteps
 pub mod Again
 pub mod Found
+pub mod OneForm
+pub mod Texts

@@ -1,5 +1,5 @@
 -- The two tests of a text: a signature, and one complete type.
-use Rattle.std.proofs.Common.{◌≡◌, ℕ, zero, suc, ◌-◌, ◌<◌, ◌≤◌, Bool, true, false, ◌&&◌, eqb, List, [], ◌∷◌, ◌++◌, length, take, Option, Some, None, refl, sym, ap, subst, ◌∙◌, arith}
+use Rattle.std.proofs.Common.{◌≡◌, ℕ, zero, suc, ◌-◌, ◌<◌, ◌≤◌, Bool, true, false, ◌&&◌, eqb, List, [], ◌∷◌, ◌++◌, length, take, Option, Some, None, ◌↔◌, refl, sym, ap, subst, ◌∙◌, arith}
 use Rattle.std.proofs.lemmas.Bool.{eqb-true, false≢true, leb-true}
 use Rattle.std.proofs.lemmas.Bool.Decides.{nat_tests}
 use Rattle.std.proofs.lemmas.List.{length-append, append-nil, nil_from_length, take_at}
@@ -93,3 +93,9 @@ type_front s r e =
     let t = type_takes 64 32 32 s r (sym e) in
     let front : take (length s - length r) s ≡ text t.kind = subst (λ (x : List ℕ). take (length x - length r) x ≡ text t.kind) (sym t.is) (take_front (text t.kind) r) in
     (record { kind = t.kind; is = front; arrays = t.arrays; structs = t.structs }, omega (arith, ap length t.is, text_len t.kind, length-append (text t.kind) r))
+
+pub signature_means : (s : List ℕ) → (is_signature s ≡ true) ↔ IsSignature s
+signature_means s = (signature_is s, signature_again s)
+
+pub single_means : (s : List ℕ) → (is_single s ≡ true) ↔ IsType s
+single_means s = (single_is s, single_again s)

@@ -202,6 +202,11 @@ pub word_again : (little : Bool) (k n x : ℕ) (rest : List ℕ) → x < 256 ^ k
 unfolding word_at
 word_again little k n x rest lt = rw (gap_again k n (word little k x ++ rest), bytes_again k (n + gap k n) (word little k x) rest (length-word little k x), from_word_again little k x lt) refl
 
+pub from_byte : (little : Bool) (bs : List ℕ) → from_word little 1 bs ≡ get_or bs 0 0
+unfolding from_word
+from_byte true bs = omega arith
+from_byte false bs = omega arith
+
 -- a number that the type has, of so many bytes
 number_below : (f : Fixed) (x : ℕ) → x < 256 ^ width f → is_number f x ≡ true → x < below f
 number_below byte x h e = omega arith

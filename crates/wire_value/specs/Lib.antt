@@ -4,3 +4,4 @@ pub mod Spelling
 pub mod Reading
 pub mod Gives
 pub mod View
+pub mod Laws

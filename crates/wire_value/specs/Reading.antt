@@ -111,6 +111,12 @@ ended_at k p = do
 abbrev pub is_string : List ℕ → Bool
 is_string t = list_all (λ b. not (b == 0)) t && is_utf8 t
 
+abbrev pub as_text : List ℕ → Option (List ℕ)
+as_text t = if is_utf8 t then Some t else None
+
+abbrev pub as_string : List ℕ → Option (List ℕ)
+as_string t = if is_string t then Some t else None
+
 unfoldable pub str_at : Bool → At → Option (List ℕ × At)
 str_at little p = do
   k ← word_at little 4 p

@@ -2,6 +2,8 @@
 #![tactic(auto)]
 
 mod error;
+pub mod laws;
+mod parts;
 mod place;
 mod types;
 mod value;

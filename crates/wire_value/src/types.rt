@@ -1,7 +1,7 @@
 //! Types, as a signature writes them.
 
-ghost use Rattle.std.specs.Prelude.{◌≡◌, ◌+◌, ◌-◌, ◌<◌, ◌≤◌, length, take, drop, IfSome, slice_index, option_map};
-ghost use Rattle.wire_value.specs.Types.{IsType};
+ghost use Rattle.std.specs.Prelude.{◌≡◌, ◌+◌, ◌-◌, ◌<◌, ◌≤◌, length, take, drop, IfSome, slice_index, option_map, true, ◌↔◌};
+ghost use Rattle.wire_value.specs.Types.{IsType, IsSignature};
 ghost use Rattle.wire_value.specs.Reading as spec;
 
 // The first letter, and 0 where there is none.
@@ -123,8 +123,7 @@ pub fn is_end(types: &[u8]) -> bool
     types.is_empty() || first_letter(types) == b')'
 }
 
-/// Whether the text is one complete type.
-pub fn is_single(text: &[u8]) -> bool
+fn is_one_type(text: &[u8]) -> bool
     ensures { result ≡ spec.is_single text.now }
 {
     match behind_type(text) {
@@ -133,14 +132,19 @@ pub fn is_single(text: &[u8]) -> bool
     }
 }
 
-/// Whether the text is a signature.
-#[tactic(auto, using(crate::proofs::TypeSteps::a_done, crate::proofs::TypeSteps::a_none, crate::proofs::TypeSteps::a_more, crate::proofs::TypeSteps::a_out))]
-pub fn is_signature(text: &[u8]) -> bool
-    ensures { result ≡ spec.is_signature text.now }
+/// Whether the text is one complete type, in which at most 32 arrays and 32 structs nest.
+#[tactic(auto, using(crate::proofs::Signatures::single_means))]
+pub fn is_single(text: &[u8]) -> bool
+    ensures is { result ≡ spec.is_single text.now }
+    ensures grammar { (result ≡ true) ↔ IsType text.now }
 {
-    if text.len() > 255 {
-        return false;
-    }
+    is_one_type(text)
+}
+
+#[tactic(auto, using(crate::proofs::TypeSteps::a_done, crate::proofs::TypeSteps::a_none, crate::proofs::TypeSteps::a_more, crate::proofs::TypeSteps::a_out))]
+fn are_types(text: &[u8]) -> bool
+    ensures { result ≡ spec.are_types (length text.now) text.now }
+{
     let mut types = text;
     for _ in 0..text.len() {
         if types.is_empty() {
@@ -152,4 +156,19 @@ pub fn is_signature(text: &[u8]) -> bool
         }
     }
     types.is_empty()
+}
+
+fn are_short_types(text: &[u8]) -> bool
+    ensures { result ≡ spec.is_signature text.now }
+{
+    text.len() <= 255 && are_types(text)
+}
+
+/// Whether the text is a signature: any number of complete types, in at most 255 bytes.
+#[tactic(auto, using(crate::proofs::Signatures::signature_means))]
+pub fn is_signature(text: &[u8]) -> bool
+    ensures is { result ≡ spec.is_signature text.now }
+    ensures grammar { (result ≡ true) ↔ IsSignature text.now }
+{
+    are_short_types(text)
 }
