@@ -307,3 +307,9 @@ module _ (little : Bool) where
         → value_at d little (123 ∷ (letter b ∷ (text k ++ 125 ∷ []))) p ≡ Some x → Found d (123 ∷ (letter b ∷ (text k ++ 125 ∷ []))) p x
     pair_found zero b k p x u w fits e = absurd (no_leaf 123 p x no_containers.3 e)
     pair_found (suc d) b k p x u w fits e = entry_found d (value_at d little) (value_found d) b k p x u w fits e
+
+  pub item_found : (d : ℕ) (s : List ℕ) (p : At) (x : Plain × At) → IsItemType s → IsBytes p.1 → value_at d little s p ≡ Some x → Found d s p x
+  item_found d s p x t fits e = elim t [
+    | inl h ↦ subst (λ (y : List ℕ). Found d y p x) (sym h.is) (value_found d h.kind p x h.arrays h.structs fits (subst (λ (y : List ℕ). value_at d little y p ≡ Some x) h.is e))
+    | inr h ↦ subst (λ (y : List ℕ). Found d y p x) (sym h.is) (pair_found d h.key h.value p x h.arrays h.structs fits (subst (λ (y : List ℕ). value_at d little y p ≡ Some x) h.is e))
+  ]

@@ -6,3 +6,6 @@ pub mod Again
 pub mod Found
 pub mod OneForm
 pub mod Texts
+pub mod Numbers
+pub mod Ascii
+pub mod ReadSteps

@@ -2,12 +2,13 @@
 
 ghost use Rattle.std.specs.Prelude.{ℕ, false, slice_index, ◌≡◌, ◌+◌, ◌≤◌, ◌<◌, ◌^◌, ◌==◌, not, length, IfOk, option_map};
 ghost use Rattle.std.specs.List.{list_all};
-ghost use Rattle.wire_value.specs.Spelling.{gap, are_parts, is_path, is_path_byte};
+ghost use Rattle.wire_value.specs.Spelling.{alignment, gap, are_parts, is_path, is_path_byte};
 ghost use Rattle.wire_value.specs.Reading.{bytes_at, byte_at, gap_at, from_word, word_at, ended_at, as_text, as_string, str_at, path_at, sign_at};
 ghost use Rattle.wire_value.specs.Gives.{Gives, at};
 
 use crate::error::ReadError;
 use crate::place::Place;
+use crate::types::first_letter;
 use byteorder::{BigEndian, ByteOrder, LittleEndian};
 use std::str;
 
@@ -58,6 +59,21 @@ pub fn gap_before(alignment: usize, offset: usize) -> usize
     ensures below { result < 8 }
 {
     (alignment - offset % alignment) % alignment
+}
+
+/// The alignment of a type.
+#[tactic(auto, unfolding(crate::specs::Spelling::alignment))]
+pub fn alignment(kind: &[u8]) -> usize
+    ensures is { result ≡ alignment kind.now }
+    ensures some { 0 < result }
+    ensures small { result ≤ 8 }
+{
+    match first_letter(kind) {
+        b'y' | b'g' | b'v' => 1,
+        b'n' | b'q' => 2,
+        b'x' | b't' | b'd' | b'(' | b'{' => 8,
+        _ => 4,
+    }
 }
 
 #[tactic(auto, unfolding(crate::specs::Reading::gap_at))]
