@@ -1,9 +1,9 @@
 -- Types are ASCII, so they are texts.
-use Rattle.std.proofs.Common.{◌≡◌, ℕ, ◌<◌, Bool, List, [], ◌∷◌, ◌++◌, length, Some, refl, sym, ap, subst, ◌∙◌, arith, inl, inr}
+use Rattle.std.proofs.Common.{◌≡◌, ℕ, ◌<◌, List, [], ◌∷◌, ◌++◌, Some, sym, subst, arith, inl, inr}
 use Rattle.std.specs.Str.{IsAscii}
 use Rattle.std.proofs.lemmas.Str.{IsUtf8-from_ascii, IsAscii-append}
 use Rattle.std.proofs.lemmas.Str.Ascii.{IsAscii-nil, IsAscii-cons}
-use Rattle.wire_value.specs.Types.{byte, boolean, int16, uint16, int32, uint32, int64, uint64, double, unix_fd, string, object_path, signature, fixed, textual, Basic, letter, Kind, Kinds, ty_basic, ty_variant, ty_array, ty_dict, ty_struct, no_kinds, and_kind, text, texts, IsType, IsEntryType, IsItemType, IsSignature}
+use Rattle.wire_value.specs.Types.{byte, boolean, int16, uint16, int32, uint32, int64, uint64, double, unix_fd, string, object_path, signature, fixed, textual, Basic, letter, Kind, Kinds, ty_basic, ty_variant, ty_array, ty_dict, ty_struct, no_kinds, and_kind, text, texts, IsEntryType, IsItemType, IsSignature}
 use Rattle.wire_value.specs.Reading.{as_text}
 use Rattle.wire_value.proofs.Texts.{utf8_yes}
 

@@ -9,3 +9,4 @@ pub mod Texts
 pub mod Numbers
 pub mod Ascii
 pub mod ReadSteps
+pub mod ReadLaws

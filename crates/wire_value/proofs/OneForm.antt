@@ -1,5 +1,5 @@
 -- Equal texts are read equally, so one text spells one value and no spelling begins another.
-use Rattle.std.proofs.Common.{◌≡◌, ℕ, suc, ◌+◌, ◌<◌, max, Bool, true, List, [], ◌++◌, length, Option, Some, refl, sym, ap, ◌∙◌, arith}
+use Rattle.std.proofs.Common.{◌≡◌, ℕ, suc, ◌+◌, ◌<◌, max, Bool, List, [], ◌++◌, length, Some, refl, sym, ap, ◌∙◌, arith}
 use Rattle.std.proofs.lemmas.List.{append-nil}
 use Rattle.wire_value.specs.Plain.{Plain, Plains, sig, sigs, nest, nests}
 use Rattle.wire_value.specs.Spelling.{spell, spells, IsValue, AreValues}

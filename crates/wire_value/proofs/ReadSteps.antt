@@ -3,7 +3,7 @@ use Rattle.std.proofs.Common.{◌≡◌, ℕ, zero, suc, ◌-◌, ◌<◌, ◌�
 use Rattle.std.proofs.lemmas.Bool.{false≢true}
 use Rattle.std.proofs.lemmas.Bool.Decides.{nat_tests}
 use Rattle.std.proofs.lemmas.List.{length-append, take_at}
-use Rattle.wire_value.specs.Types.{Basic, letter, Kind, ty_basic, ty_variant, ty_array, ty_dict, ty_struct, text, arrays, structs, IsType, IsEntryType, IsItemType}
+use Rattle.wire_value.specs.Types.{letter, Kind, ty_basic, ty_variant, ty_array, ty_dict, ty_struct, text, arrays, structs, IsType, IsEntryType, IsItemType}
 use Rattle.wire_value.specs.Plain.{Plain, Plains, none, more}
 use Rattle.wire_value.specs.Spelling.{spell}
 use Rattle.wire_value.specs.Reading.{◌>>=◌, At, Read, head, one_type, is_end, leaf_at, items_at, array_at, fields_at, struct_at, entry_at, variant_at, value_at}

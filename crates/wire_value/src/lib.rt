@@ -6,10 +6,13 @@ mod error;
 pub mod laws;
 mod parts;
 mod place;
-pub mod reading;
+mod read;
+mod reading;
 mod types;
 mod value;
 
 pub use error::ReadError;
 pub use place::Place;
+pub use read::{read_items, read_value, read_values};
+pub use types::{is_signature, is_single};
 pub use value::Value;

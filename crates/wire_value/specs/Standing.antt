@@ -1,0 +1,27 @@
+-- What stands at a place: an offset from the message's first byte, and the bytes from there on.
+use Rattle.std.specs.Prelude.{◌≡◌, ℕ, ◌+◌, ◌≤◌, Bool, List, ◌++◌, length}
+use Rattle.wire_value.specs.Plain.{Plain, Plains, sig, sigs, nests}
+use Rattle.wire_value.specs.Spelling.{Spells, SpellsAll, spells, AreOf}
+use Rattle.wire_value.specs.Reading.{At}
+
+-- a value of the type stands at the place p, and q is the place behind it
+pub record Stands (little : Bool) (depth : ℕ) (kind : List ℕ) (p : At) (v : Plain) (q : At) : Type 0 where
+  pub text : List ℕ
+  pub spells : Spells little depth p.0 v text
+  pub typed : sig v ≡ kind
+  pub front : p.1 ≡ text ++ q.1
+  pub behind : q.0 ≡ p.0 + length text
+
+-- values of the types stand there, one after the other
+pub record StandAll (little : Bool) (depth : ℕ) (types : List ℕ) (p : At) (vs : Plains) (q : At) : Type 0 where
+  pub text : List ℕ
+  pub spells : SpellsAll little depth p.0 vs text
+  pub typed : sigs vs ≡ types
+  pub front : p.1 ≡ text ++ q.1
+  pub behind : q.0 ≡ p.0 + length text
+
+-- all bytes of the place are values of one type, one after the other
+pub record StandItems (little : Bool) (depth : ℕ) (item : List ℕ) (p : At) (vs : Plains) : Type 0 where
+  pub whole : p.1 ≡ spells little p.0 vs
+  pub valid : AreOf little item p.0 vs
+  pub nests : nests vs ≤ depth
