@@ -10,3 +10,7 @@ pub mod Numbers
 pub mod Ascii
 pub mod ReadSteps
 pub mod ReadLaws
+pub mod Ends
+pub mod Views
+pub mod Growing
+pub mod Written

@@ -6,3 +6,4 @@ pub mod Gives
 pub mod View
 pub mod Laws
 pub mod Standing
+pub mod Sizes

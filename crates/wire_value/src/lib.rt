@@ -6,10 +6,13 @@ mod error;
 pub mod laws;
 mod parts;
 mod place;
+mod put;
 mod read;
 mod reading;
+pub mod sizes;
 mod types;
 mod value;
+pub mod writing;
 
 pub use error::ReadError;
 pub use place::Place;

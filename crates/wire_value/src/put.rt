@@ -1,0 +1,125 @@
+//! The parts of a value as bytes, added to those of a message.
+
+ghost use Rattle.std.specs.Prelude.{◌≡◌, [], ◌∷◌, ◌++◌, ◌+◌, ◌<◌, ◌≤◌, ◌^◌, length, OnOk};
+ghost use Rattle.wire_value.specs.Spelling.{zeros, gap, word};
+
+use crate::parts::gap_before;
+use byteorder::{BigEndian, ByteOrder, LittleEndian};
+use std::alloc::AllocError;
+
+#[tactic(auto, using(crate::proofs::Growing::zeros_more))]
+pub fn put_gap(out: &mut Vec<u8>, alignment: usize) -> Result<(), AllocError>
+    requires some { 0 < alignment }
+    requires small { alignment ≤ 8 }
+    ensures { OnOk result (out.new.items ≡ out.old.items ++ zeros (gap alignment (length out.old.items))) }
+{
+    for _ in 0..gap_before(alignment, out.len()) {
+        out.push(0)?;
+    }
+    Ok(())
+}
+
+#[tactic(auto, using(crate::proofs::Growing::word_8))]
+fn put_bare_8(out: &mut Vec<u8>, little: bool, number: u8) -> Result<(), AllocError>
+    ensures { OnOk result (out.new.items ≡ out.old.items ++ word little 1 number) }
+{
+    out.push(number)?;
+    Ok(())
+}
+
+pub fn put_u8(out: &mut Vec<u8>, little: bool, number: u8) -> Result<(), AllocError>
+    ensures { OnOk result (out.new.items ≡ out.old.items ++ (zeros (gap 1 (length out.old.items)) ++ word little 1 number)) }
+{
+    put_gap(out, 1)?;
+    put_bare_8(out, little, number)
+}
+
+// Adds a number, lowest or highest byte first.
+#[tactic(auto, unfolding(crate::specs::Spelling::word))]
+fn put_bare_16(out: &mut Vec<u8>, little: bool, number: u16) -> Result<(), AllocError>
+    ensures { OnOk result (out.new.items ≡ out.old.items ++ word little 2 number) }
+{
+    let mut bytes = [0; 2];
+    if little {
+        LittleEndian::write_u16(&mut bytes, number);
+    } else {
+        BigEndian::write_u16(&mut bytes, number);
+    }
+    out.extend_from_slice(&bytes)?;
+    Ok(())
+}
+
+pub fn put_u16(out: &mut Vec<u8>, little: bool, number: u16) -> Result<(), AllocError>
+    ensures { OnOk result (out.new.items ≡ out.old.items ++ (zeros (gap 2 (length out.old.items)) ++ word little 2 number)) }
+{
+    put_gap(out, 2)?;
+    put_bare_16(out, little, number)
+}
+
+// Adds a number, lowest or highest byte first.
+#[tactic(auto, unfolding(crate::specs::Spelling::word))]
+fn put_bare_32(out: &mut Vec<u8>, little: bool, number: u32) -> Result<(), AllocError>
+    ensures { OnOk result (out.new.items ≡ out.old.items ++ word little 4 number) }
+{
+    let mut bytes = [0; 4];
+    if little {
+        LittleEndian::write_u32(&mut bytes, number);
+    } else {
+        BigEndian::write_u32(&mut bytes, number);
+    }
+    out.extend_from_slice(&bytes)?;
+    Ok(())
+}
+
+pub fn put_u32(out: &mut Vec<u8>, little: bool, number: u32) -> Result<(), AllocError>
+    ensures { OnOk result (out.new.items ≡ out.old.items ++ (zeros (gap 4 (length out.old.items)) ++ word little 4 number)) }
+{
+    put_gap(out, 4)?;
+    put_bare_32(out, little, number)
+}
+
+// Adds a number, lowest or highest byte first.
+#[tactic(auto, unfolding(crate::specs::Spelling::word))]
+fn put_bare_64(out: &mut Vec<u8>, little: bool, number: u64) -> Result<(), AllocError>
+    ensures { OnOk result (out.new.items ≡ out.old.items ++ word little 8 number) }
+{
+    let mut bytes = [0; 8];
+    if little {
+        LittleEndian::write_u64(&mut bytes, number);
+    } else {
+        BigEndian::write_u64(&mut bytes, number);
+    }
+    out.extend_from_slice(&bytes)?;
+    Ok(())
+}
+
+pub fn put_u64(out: &mut Vec<u8>, little: bool, number: u64) -> Result<(), AllocError>
+    ensures { OnOk result (out.new.items ≡ out.old.items ++ (zeros (gap 8 (length out.old.items)) ++ word little 8 number)) }
+{
+    put_gap(out, 8)?;
+    put_bare_64(out, little, number)
+}
+
+// Adds a string or an object path: its length, its bytes and a NUL.
+#[tactic(auto, using(std::proofs::lemmas::List::append_assoc))]
+pub fn put_text(out: &mut Vec<u8>, little: bool, text: &[u8]) -> Result<(), AllocError>
+    requires { length text.now < 2 ^ 32 }
+    ensures { OnOk result (out.new.items ≡ out.old.items ++ (zeros (gap 4 (length out.old.items)) ++ (word little 4 (length text.now) ++ (text.now ++ 0 ∷ [])))) }
+{
+    put_u32(out, little, text.len() as u32)?;
+    out.extend_from_slice(text)?;
+    out.push(0)?;
+    Ok(())
+}
+
+// Adds a signature: its length in one byte, its bytes and a NUL.
+#[tactic(auto, using(std::proofs::lemmas::List::append_assoc))]
+pub fn put_signature(out: &mut Vec<u8>, text: &[u8]) -> Result<(), AllocError>
+    requires { length text.now ≤ 255 }
+    ensures { OnOk result (out.new.items ≡ out.old.items ++ (length text.now ∷ (text.now ++ 0 ∷ []))) }
+{
+    out.push(text.len() as u8)?;
+    out.extend_from_slice(text)?;
+    out.push(0)?;
+    Ok(())
+}
