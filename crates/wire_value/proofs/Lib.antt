@@ -14,3 +14,4 @@ pub mod Ends
 pub mod Views
 pub mod Growing
 pub mod Written
+pub mod Checks

@@ -284,16 +284,16 @@ text_is [] h = refl
 text_is (zero ∷ t) h = absurd (h.0 refl)
 text_is (suc b ∷ t) h = rw suc_is_not (text_is t h.1)
 
-both_true : (a b : Bool) → (a && b) ≡ true → (a ≡ true) × (b ≡ true)
+pub both_true : (a b : Bool) → (a && b) ≡ true → (a ≡ true) × (b ≡ true)
 both_true true b e = (refl, e)
 both_true false b e = absurd (false≢true e)
 
-string_takes : (t : List ℕ) → length t < 2 ^ 32 → is_string t ≡ true → IsString t
+pub string_takes : (t : List ℕ) → length t < 2 ^ 32 → is_string t ≡ true → IsString t
 string_takes t lt e =
     let b = both_true _ _ e in
     record { utf8 = IsUtf8-from_is_utf8 t b.1; no_nul = is_text t b.0; short = lt }
 
-string_is : (t : List ℕ) → IsString t → is_string t ≡ true
+pub string_is : (t : List ℕ) → IsString t → is_string t ≡ true
 string_is t h = rw (text_is t h.no_nul, is_utf8-from_IsUtf8 t h.utf8) refl
 
 pub str_takes : (little : Bool) (p : At) (t : List ℕ × At) → IsBytes p.1 → str_at little p ≡ Some t

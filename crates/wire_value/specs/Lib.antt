@@ -7,3 +7,4 @@ pub mod View
 pub mod Laws
 pub mod Standing
 pub mod Sizes
+pub mod Checking
