@@ -10,6 +10,7 @@ use Rattle.wire_value.specs.Plain.{Plain, number, words, array, struct, entry, v
 use Rattle.wire_value.specs.Spelling.{gap, first_item, below, IsTextual, spell, IsValue, AreValues, AreOf}
 use Rattle.wire_value.specs.Sizes.{ends, end_all}
 use Rattle.wire_value.specs.Reading.{◌>>=◌, head, is_end, one_type}
+use Rattle.wire_value.specs.View.{bit}
 use Rattle.wire_value.specs.Checking.{is_letter, is_textual, is_variant_type, within, array_within, checked, checked_items, checked_fields}
 use Rattle.wire_value.proofs.Steps.{bind_some, if_some_is, both_true, string_takes, string_is}
 use Rattle.wire_value.proofs.TypeLaws.{none_some, type_again, text_len, not_struct}
@@ -299,3 +300,14 @@ module _ (little : Bool) (limit : ℕ) where
         let first = checked_again v d n are.1 (omega arith) (omega (arith, end_grows (ends n v) vs, lt)) in
         let others = fields_again vs d (ends n v) tail (subst (λ (i : ℕ). AreValues little i vs) behind are.2) (omega arith) ended lt in
         rw (append_assoc (sig v) (sigs vs) tail, goes_on, one, take_front (sig v) s, first) others
+
+-- a number of a type passes the test for its range
+
+pub number_passes : (b : Bool) (x m : ℕ) → x < m → (b && ltb x m) ≡ b
+number_passes true x m h = lt-ltb x m h
+number_passes false x m h = refl
+
+pub flag_passes : (b flag : Bool) → (b && ltb (bit flag) 2) ≡ b
+flag_passes true true = refl
+flag_passes true false = refl
+flag_passes false flag = refl

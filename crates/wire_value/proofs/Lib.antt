@@ -15,3 +15,4 @@ pub mod Views
 pub mod Growing
 pub mod Written
 pub mod Checks
+pub mod ValidLaws

@@ -1,7 +1,7 @@
 -- Values that a loop goes over, as plain values.
-use Rattle.std.proofs.Common.{◌≡◌, ℕ, ◌+◌, ◌<◌, ◌≤◌, List, ◌∷◌, length, get_or, drop, sym, ap, ◌∙◌, arith, rules, Box, Global}
-use Rattle.std.proofs.lemmas.List.{drop_more}
-use Rattle.wire_value.specs.Plain.{Plain, more, entry}
+use Rattle.std.proofs.Common.{◌≡◌, ℕ, ◌+◌, ◌<◌, ◌≤◌, List, ◌∷◌, ◌++◌, length, get_or, drop, sym, ap, ◌∙◌, arith, rules, Box, Global}
+use Rattle.std.proofs.lemmas.List.{drop_more, length-append}
+use Rattle.wire_value.specs.Plain.{Plains, Plain, more, entry, sig, sigs}
 use Rattle.wire_value.specs.Spelling.{gap}
 use Rattle.wire_value.specs.Sizes.{ends, end_all}
 use Rattle.wire_value.specs.View.{view, views}
@@ -21,3 +21,10 @@ key_ends n x k v is = omega (arith, ap (ends n) is, grows (ends (n + gap 8 n) k)
 
 pub view_pair : (k v : Box Value Global) → view (Pair k v) ≡ entry (view k.value) (view v.value)
 view_pair k v = search (rules, the_lemmas)
+
+-- where a loop's next type has no room, all of them have none
+pub no_room : (vs : List Value) (i : ℕ) (v : Value) (old out : List ℕ) → i < length vs → v ≡ get_or vs i v → out ++ sigs (views (drop i vs)) ≡ old ++ sigs (views vs)
+    → 255 < length out + length (sig (view v)) → 255 < length old + length (sigs (views vs))
+no_room vs i v old out lt is e full =
+    let rest = ap (λ (x : Plains). length (sigs x)) (views_more vs i v lt is) in
+    omega (arith, ap length e, rest, length-append out (sigs (views (drop i vs))), length-append old (sigs (views vs)), length-append (sig (view v)) (sigs (views (drop (i + 1) vs))), full)

@@ -1,7 +1,8 @@
 -- What stands at a place: an offset from the message's first byte, and the bytes from there on.
 use Rattle.std.specs.Prelude.{◌≡◌, ℕ, ◌+◌, ◌≤◌, Bool, List, ◌++◌, length}
-use Rattle.wire_value.specs.Plain.{Plain, Plains, sig, sigs, nests}
-use Rattle.wire_value.specs.Spelling.{Spells, SpellsAll, spells, AreOf}
+use Rattle.wire_value.specs.Plain.{Plain, Plains, sig, sigs, nest, nests}
+use Rattle.wire_value.specs.Spelling.{Spells, SpellsAll, spells, IsValue, AreValues, AreOf}
+use Rattle.wire_value.specs.Sizes.{ends, end_all}
 use Rattle.wire_value.specs.Reading.{At}
 
 -- a value of the type stands at the place p, and q is the place behind it
@@ -25,3 +26,17 @@ pub record StandItems (little : Bool) (depth : ℕ) (item : List ℕ) (p : At) (
   pub whole : p.1 ≡ spells little p.0 vs
   pub valid : AreOf little item p.0 vs
   pub nests : nests vs ≤ depth
+
+-- the grammar spells the value as one of the type at the offset n, and it ends at e
+pub record MayStand (little : Bool) (depth : ℕ) (kind : List ℕ) (n : ℕ) (v : Plain) (e : ℕ) : Type 0 where
+  pub valid : IsValue little n v
+  pub typed : sig v ≡ kind
+  pub nests : nest v ≤ depth
+  pub ends : ends n v ≡ e
+
+-- the same of values of the types, one after the other
+pub record MayStandAll (little : Bool) (depth : ℕ) (types : List ℕ) (n : ℕ) (vs : Plains) (e : ℕ) : Type 0 where
+  pub valid : AreValues little n vs
+  pub typed : sigs vs ≡ types
+  pub nests : nests vs ≤ depth
+  pub ends : end_all n vs ≡ e

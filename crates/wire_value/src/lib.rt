@@ -2,6 +2,7 @@
 #![tactic(auto)]
 
 mod basic;
+mod checking;
 mod error;
 pub mod laws;
 mod parts;
@@ -11,6 +12,7 @@ mod read;
 mod reading;
 pub mod sizes;
 mod types;
+mod valid;
 mod value;
 pub mod writing;
 
@@ -18,4 +20,5 @@ pub use error::ReadError;
 pub use place::Place;
 pub use read::{read_items, read_value, read_values};
 pub use types::{is_signature, is_single};
+pub use valid::{end_of_value, end_of_values};
 pub use value::Value;

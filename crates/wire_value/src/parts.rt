@@ -198,7 +198,7 @@ pub fn text_of(bytes: &[u8]) -> Option<&str>
 }
 
 // The bytes as a string, where they are UTF-8 without NUL.
-fn string_of(bytes: &[u8]) -> Option<&str>
+pub fn string_of(bytes: &[u8]) -> Option<&str>
     ensures { option_map (λ s. s.now) result ≡ as_string bytes.now }
 {
     if !has_no_nul(bytes) {

@@ -1,6 +1,6 @@
 //! The types of values, and where values end.
 
-ghost use Rattle.std.specs.Prelude.{◌≡◌, ◌++◌, ◌+◌, ◌<◌, ◌≤◌, ◌^◌, length, OnOk};
+ghost use Rattle.std.specs.Prelude.{◌≡◌, true, false, ◌++◌, ◌+◌, ◌<◌, ◌≤◌, ◌^◌, length, OnOk};
 ghost use Rattle.wire_value.specs.Plain.{sig, sigs};
 ghost use Rattle.wire_value.specs.Spelling.{first_item, gap};
 ghost use Rattle.wire_value.specs.Reading.{head};
@@ -9,6 +9,7 @@ ghost use Rattle.wire_value.specs.View.{view, views};
 
 use crate::parts::{alignment, gap_before};
 use crate::value::Value;
+use arrayvec::ArrayVec;
 use std::alloc::AllocError;
 
 // The first letter of a value's type.
@@ -68,6 +69,39 @@ pub fn put_types(out: &mut Vec<u8>, values: &[Value]) -> Result<(), AllocError>
         put_type(out, value)?;
     }
     Ok(())
+}
+
+/// Adds the type of a value to a text of at most 255 bytes; false where it has no room.
+#[cycle(short_types)]
+#[tactic(auto, using(std::proofs::lemmas::List::append_assoc))]
+pub fn put_type_in(out: &mut ArrayVec<u8, 255>, value: &Value) -> bool
+    ensures put { result ≡ true → out.new.items ≡ out.old.items ++ sig (view value.now) }
+    ensures full { result ≡ false → 255 < length out.old.items + length (sig (view value.now)) }
+{
+    if out.try_push(letter_of(value)).is_err() {
+        return false;
+    }
+    match value {
+        Value::Array { item, items: _ } => out.try_extend_from_slice(item.as_bytes()).is_ok(),
+        Value::Struct(fields) => put_types_in(out, fields) && out.try_push(b')').is_ok(),
+        Value::Pair { key, value } => {
+            put_type_in(out, key) && put_type_in(out, value) && out.try_push(b'}').is_ok()
+        }
+        _ => true,
+    }
+}
+
+#[cycle(short_types)]
+fn put_types_in(out: &mut ArrayVec<u8, 255>, values: &[Value]) -> bool
+    ensures put { result ≡ true → out.new.items ≡ out.old.items ++ sigs (views values.now) }
+    ensures full { result ≡ false → 255 < length out.old.items + length (sigs (views values.now)) }
+{
+    for value in values {
+        if !put_type_in(out, value) {
+            return false;
+        }
+    }
+    true
 }
 
 /// How many bytes the type of a value has. The condition bounds it.
