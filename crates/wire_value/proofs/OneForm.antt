@@ -4,7 +4,7 @@ use Rattle.std.proofs.lemmas.List.{append-nil}
 use Rattle.wire_value.specs.Plain.{Plain, Plains, sig, sigs, nest, nests}
 use Rattle.wire_value.specs.Spelling.{spell, spells, IsValue, AreValues}
 use Rattle.wire_value.specs.Reading.{At, value_at, fields_at}
-use Rattle.wire_value.specs.Laws.{OneValue, NoPrefix, OneSequence, NoSequencePrefix}
+use Rattle.wire_value.specs.Laws.{OneValue, NoPrefix, OneSequence, NoSequencePrefix, ReadsBack}
 use Rattle.wire_value.proofs.Steps.{some_is}
 use Rattle.wire_value.proofs.Again.{value_again, fields_again}
 
@@ -51,3 +51,12 @@ pub no_sequence_prefix_law : NoSequencePrefix
 no_sequence_prefix_law little d e n vs ws short long rest p q same is =
     let seen : spells little n vs ++ rest ≡ spells little n ws ++ [] = ap (λ (t : List ℕ). t ++ rest) (sym p.is) ∙ sym is ∙ q.is ∙ sym (append-nil (spells little n ws)) in
     (one_reading_all little n vs ws rest [] p.valid q.valid same seen).1
+
+pub reads_back_law : ReadsBack
+reads_back_law little d n vs rest are le = record {
+  text = spells little n vs;
+  spells = record { is = refl; valid = are; nests = le };
+  typed = refl;
+  front = refl;
+  behind = refl;
+}

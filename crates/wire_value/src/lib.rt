@@ -1,20 +1,22 @@
-//! The values of D-Bus messages as bytes: their types, signatures, reader and writer.
+//! The values of D-Bus messages as bytes: their types and signatures, a reader, a writer, and what
+//! the grammar promises.
 #![tactic(auto)]
 
 mod basic;
 mod checking;
 mod error;
 pub mod laws;
-mod parts;
+pub mod parts;
 mod place;
-mod put;
+pub mod put;
 mod read;
 mod reading;
-pub mod sizes;
+mod sizes;
 mod types;
 mod valid;
 mod value;
-pub mod writing;
+mod write;
+mod writing;
 
 pub use error::ReadError;
 pub use place::Place;
@@ -22,3 +24,4 @@ pub use read::{read_items, read_value, read_values};
 pub use types::{is_signature, is_single};
 pub use valid::{end_of_value, end_of_values};
 pub use value::Value;
+pub use write::{write_value, write_values};
