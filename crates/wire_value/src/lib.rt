@@ -24,4 +24,4 @@ pub use read::{read_items, read_value, read_values};
 pub use types::{is_signature, is_single};
 pub use valid::{end_of_value, end_of_values};
 pub use value::Value;
-pub use write::{write_value, write_values};
+pub use write::{signature_of, write_value, write_values};

@@ -1,12 +1,15 @@
 //! Values written as the bytes of a message.
 
-ghost use Rattle.std.specs.Prelude.{◌≡◌, ◌++◌, ◌<◌, ◌^◌, length, OnOk};
+ghost use Rattle.std.specs.Prelude.{◌≡◌, ◌++◌, ◌<◌, ◌^◌, length, OnOk, IfOk};
+ghost use Rattle.wire_value.specs.Plain.{sigs};
 ghost use Rattle.wire_value.specs.Spelling.{spell, spells, IsValue, AreValues};
 ghost use Rattle.wire_value.specs.Sizes.{ends, end_all};
 ghost use Rattle.wire_value.specs.View.{view, views};
 
+use crate::sizes::put_types;
 use crate::value::Value;
 use crate::writing::{put, put_all};
+use std::alloc::Global;
 use updater_text::NoMemory;
 
 /// Adds the spelling of a value behind the bytes of a message so far, in the byte order that
@@ -31,4 +34,13 @@ pub fn write_values(out: &mut Vec<u8>, little: bool, values: &[Value]) -> Result
 {
     put_all(out, little, values)?;
     Ok(())
+}
+
+/// The types of values, as the signature of a body has them.
+pub fn signature_of(alloc: Global, values: &[Value]) -> Result<Vec<u8>, NoMemory>
+    ensures { IfOk result (λ s. s.items ≡ sigs (views values.now)) }
+{
+    let mut signature = Vec::new(alloc);
+    put_types(&mut signature, values)?;
+    Ok(signature)
 }
