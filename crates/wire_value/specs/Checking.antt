@@ -28,11 +28,17 @@ module _ (limit : ℕ) where
   abbrev pub within : ℕ → Option ℕ
   within n = if nat_le n limit then Some n else None
 
+  -- a number of the type with the letter, below m and of w bytes
+  abbrev pub checked_number : ℕ → List ℕ → ℕ → ℕ → ℕ → ℕ → Option ℕ
+  checked_number c s x m w n = if is_letter c s && nat_lt x m then within (n + gap w n + w) else None
+
+  abbrev pub checked_words : Textual → List ℕ → List ℕ → ℕ → Option ℕ
+  checked_words k s t n = if is_letter (textual_letter k) s && is_textual k t then within (ends n (words k t)) else None
+
   abbrev mutual
     pub checked : ℕ → List ℕ → ℕ → Plain → Option ℕ
-    checked d s n (number f x) =
-        if is_letter (fixed_letter f) s && nat_lt x (below f) then within (n + gap (width f) n + width f) else None
-    checked d s n (words k t) = if is_letter (textual_letter k) s && is_textual k t then within (ends n (words k t)) else None
+    checked d s n (number f x) = checked_number (fixed_letter f) s x (below f) (width f) n
+    checked d s n (words k t) = checked_words k s t n
     checked d s n (array item vs) =
         if (d == 0) || not ((head s == 97) && bytes_eq (drop 1 s) item) then None
         else checked_items (d - 1) item (first_item item (n + gap 4 n + 4)) vs >>= array_within (first_item item (n + gap 4 n + 4))

@@ -221,3 +221,15 @@ value_at (suc d) little s p =
     else if head s == 123 then entry_at (value_at d little) (drop 1 s) p
     else if head s == 118 then variant_at (value_at d little) p
     else leaf_at little (head s) p
+
+-- values of the types that a text writes
+abbrev pub values_at : ℕ → Bool → List ℕ → At → Option (Plains × At)
+values_at depth little s p = fields_at (value_at depth little) (suc (length s)) s p
+
+-- values of one type, which all the bytes are
+abbrev pub all_items_at : ℕ → Bool → List ℕ → At → Option Plains
+all_items_at depth little item p = items_at (value_at depth little item) (length p.1) p
+
+-- an array by the type of its items, in each of which so many containers nest at most
+abbrev pub array_value_at : ℕ → Bool → List ℕ → Read
+array_value_at depth little item p = array_at (value_at depth little item) little item p

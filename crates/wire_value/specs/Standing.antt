@@ -1,5 +1,5 @@
 -- What stands at a place: an offset from the message's first byte, and the bytes from there on.
-use Rattle.std.specs.Prelude.{◌≡◌, ℕ, ◌+◌, ◌≤◌, Bool, List, ◌++◌, length}
+use Rattle.std.specs.Prelude.{◌≡◌, ℕ, ◌+◌, ◌≤◌, Bool, List, ◌++◌, length, Option, Some, IfSome}
 use Rattle.wire_value.specs.Plain.{Plain, Plains, sig, sigs, nest, nests}
 use Rattle.wire_value.specs.Spelling.{Spells, SpellsAll, spells, IsValue, AreValues, AreOf}
 use Rattle.wire_value.specs.Sizes.{ends, end_all}
@@ -40,3 +40,18 @@ pub record MayStandAll (little : Bool) (depth : ℕ) (types : List ℕ) (n : ℕ
   pub typed : sigs vs ≡ types
   pub nests : nests vs ≤ depth
   pub ends : end_all n vs ≡ e
+
+-- where the value ends was found: it may stand there, and it ends within the limit
+abbrev pub EndsAt : ℕ → ℕ → List ℕ → ℕ → Plain → Option ℕ → Type 0
+EndsAt limit depth kind n v found = (little : Bool) → IfSome found (λ e. MayStand little depth kind n v e × (e ≤ limit))
+
+-- nothing else was found where it may stand there and ends within the limit
+abbrev pub EndsOnlyAt : ℕ → ℕ → List ℕ → ℕ → Plain → Option ℕ → Type 0
+EndsOnlyAt limit depth kind n v found = (little : Bool) (e : ℕ) → MayStand little depth kind n v e → e ≤ limit → found ≡ Some e
+
+-- the same of values one after the other
+abbrev pub AllEndAt : ℕ → ℕ → List ℕ → ℕ → Plains → Option ℕ → Type 0
+AllEndAt limit depth types n vs found = (little : Bool) → IfSome found (λ e. MayStandAll little depth types n vs e × (e ≤ limit))
+
+abbrev pub AllEndOnlyAt : ℕ → ℕ → List ℕ → ℕ → Plains → Option ℕ → Type 0
+AllEndOnlyAt limit depth types n vs found = (little : Bool) (e : ℕ) → MayStandAll little depth types n vs e → e ≤ limit → found ≡ Some e

@@ -3,7 +3,7 @@
 ghost use Rattle.std.specs.Prelude.{◌≡◌, ◌≢◌};
 ghost use Rattle.wire_value.specs.Types.{byte, boolean, int16, uint16, int32, uint32, int64, uint64, double, unix_fd, string, object_path, signature, fixed, textual};
 ghost use Rattle.wire_value.specs.Reading.{basic_at, leaf_at};
-ghost use Rattle.wire_value.specs.Gives.{Gives, at};
+ghost use Rattle.wire_value.specs.Gives.{GivesValue, at};
 ghost use Rattle.wire_value.specs.View.{view};
 
 use crate::error::ReadError;
@@ -15,7 +15,7 @@ use std::alloc::Global;
 use updater_text::Text;
 
 fn byte_value<'a>(little: bool, p: Place<'a>) -> Result<(Value, Place<'a>), ReadError>
-    ensures { Gives (λ x. (view x.0, at x.1)) result (basic_at little (fixed byte) (at p.entry)) }
+    ensures { GivesValue result (basic_at little (fixed byte) (at p.entry)) }
 {
     let (number, rest) = u8_of(little, p)?;
     Ok((Value::Byte(number), rest))
@@ -23,7 +23,7 @@ fn byte_value<'a>(little: bool, p: Place<'a>) -> Result<(Value, Place<'a>), Read
 
 #[tactic(auto, using(crate::proofs::Numbers::bit_back))]
 fn flag_value<'a>(little: bool, p: Place<'a>) -> Result<(Value, Place<'a>), ReadError>
-    ensures { Gives (λ x. (view x.0, at x.1)) result (basic_at little (fixed boolean) (at p.entry)) }
+    ensures { GivesValue result (basic_at little (fixed boolean) (at p.entry)) }
 {
     let (number, rest) = u32_of(little, p)?;
     if number > 1 {
@@ -34,14 +34,14 @@ fn flag_value<'a>(little: bool, p: Place<'a>) -> Result<(Value, Place<'a>), Read
 
 #[tactic(auto, using(crate::proofs::Numbers::back_16))]
 fn i16_value<'a>(little: bool, p: Place<'a>) -> Result<(Value, Place<'a>), ReadError>
-    ensures { Gives (λ x. (view x.0, at x.1)) result (basic_at little (fixed int16) (at p.entry)) }
+    ensures { GivesValue result (basic_at little (fixed int16) (at p.entry)) }
 {
     let (number, rest) = u16_of(little, p)?;
     Ok((Value::I16(number.cast_signed()), rest))
 }
 
 fn u16_value<'a>(little: bool, p: Place<'a>) -> Result<(Value, Place<'a>), ReadError>
-    ensures { Gives (λ x. (view x.0, at x.1)) result (basic_at little (fixed uint16) (at p.entry)) }
+    ensures { GivesValue result (basic_at little (fixed uint16) (at p.entry)) }
 {
     let (number, rest) = u16_of(little, p)?;
     Ok((Value::U16(number), rest))
@@ -49,14 +49,14 @@ fn u16_value<'a>(little: bool, p: Place<'a>) -> Result<(Value, Place<'a>), ReadE
 
 #[tactic(auto, using(crate::proofs::Numbers::back_32))]
 fn i32_value<'a>(little: bool, p: Place<'a>) -> Result<(Value, Place<'a>), ReadError>
-    ensures { Gives (λ x. (view x.0, at x.1)) result (basic_at little (fixed int32) (at p.entry)) }
+    ensures { GivesValue result (basic_at little (fixed int32) (at p.entry)) }
 {
     let (number, rest) = u32_of(little, p)?;
     Ok((Value::I32(number.cast_signed()), rest))
 }
 
 fn u32_value<'a>(little: bool, p: Place<'a>) -> Result<(Value, Place<'a>), ReadError>
-    ensures { Gives (λ x. (view x.0, at x.1)) result (basic_at little (fixed uint32) (at p.entry)) }
+    ensures { GivesValue result (basic_at little (fixed uint32) (at p.entry)) }
 {
     let (number, rest) = u32_of(little, p)?;
     Ok((Value::U32(number), rest))
@@ -64,14 +64,14 @@ fn u32_value<'a>(little: bool, p: Place<'a>) -> Result<(Value, Place<'a>), ReadE
 
 #[tactic(auto, using(crate::proofs::Numbers::back_64))]
 fn i64_value<'a>(little: bool, p: Place<'a>) -> Result<(Value, Place<'a>), ReadError>
-    ensures { Gives (λ x. (view x.0, at x.1)) result (basic_at little (fixed int64) (at p.entry)) }
+    ensures { GivesValue result (basic_at little (fixed int64) (at p.entry)) }
 {
     let (number, rest) = u64_of(little, p)?;
     Ok((Value::I64(number.cast_signed()), rest))
 }
 
 fn u64_value<'a>(little: bool, p: Place<'a>) -> Result<(Value, Place<'a>), ReadError>
-    ensures { Gives (λ x. (view x.0, at x.1)) result (basic_at little (fixed uint64) (at p.entry)) }
+    ensures { GivesValue result (basic_at little (fixed uint64) (at p.entry)) }
 {
     let (number, rest) = u64_of(little, p)?;
     Ok((Value::U64(number), rest))
@@ -79,14 +79,14 @@ fn u64_value<'a>(little: bool, p: Place<'a>) -> Result<(Value, Place<'a>), ReadE
 
 #[tactic(auto, using(crate::proofs::Numbers::double_back))]
 fn double_value<'a>(little: bool, p: Place<'a>) -> Result<(Value, Place<'a>), ReadError>
-    ensures { Gives (λ x. (view x.0, at x.1)) result (basic_at little (fixed double) (at p.entry)) }
+    ensures { GivesValue result (basic_at little (fixed double) (at p.entry)) }
 {
     let (number, rest) = u64_of(little, p)?;
     Ok((Value::Double(number.to_le_bytes()), rest))
 }
 
 fn fd_value<'a>(little: bool, p: Place<'a>) -> Result<(Value, Place<'a>), ReadError>
-    ensures { Gives (λ x. (view x.0, at x.1)) result (basic_at little (fixed unix_fd) (at p.entry)) }
+    ensures { GivesValue result (basic_at little (fixed unix_fd) (at p.entry)) }
 {
     let (number, rest) = u32_of(little, p)?;
     Ok((Value::Fd(number), rest))
@@ -96,7 +96,7 @@ fn fd_value<'a>(little: bool, p: Place<'a>) -> Result<(Value, Place<'a>), ReadEr
 #[tactic(auto, unfolding(crate::specs::Reading::leaf_at, crate::specs::Reading::basic_of))]
 fn number_value<'a>(little: bool, letter: u8, p: Place<'a>) -> Result<(Value, Place<'a>), ReadError>
     requires no_text { (letter ≢ 115) × (letter ≢ 111) × (letter ≢ 103) }
-    ensures { Gives (λ x. (view x.0, at x.1)) result (leaf_at little letter (at p.entry)) }
+    ensures { GivesValue result (leaf_at little letter (at p.entry)) }
 {
     match letter {
         b'y' => byte_value(little, p),
@@ -118,7 +118,7 @@ fn string_value<'a>(
     little: bool,
     p: Place<'a>,
 ) -> Result<(Value, Place<'a>), ReadError>
-    ensures { Gives (λ x. (view x.0, at x.1)) result (basic_at little (textual string) (at p.entry)) }
+    ensures { GivesValue result (basic_at little (textual string) (at p.entry)) }
 {
     let (text, rest) = str_of(little, p)?;
     let text = Text::new(alloc, text)?;
@@ -130,7 +130,7 @@ fn path_value<'a>(
     little: bool,
     p: Place<'a>,
 ) -> Result<(Value, Place<'a>), ReadError>
-    ensures { Gives (λ x. (view x.0, at x.1)) result (basic_at little (textual object_path) (at p.entry)) }
+    ensures { GivesValue result (basic_at little (textual object_path) (at p.entry)) }
 {
     let (text, rest) = path_of(little, p)?;
     let text = Text::new(alloc, text)?;
@@ -143,7 +143,7 @@ fn signature_value<'a>(
     little: bool,
     p: Place<'a>,
 ) -> Result<(Value, Place<'a>), ReadError>
-    ensures { Gives (λ x. (view x.0, at x.1)) result (basic_at little (textual signature) (at p.entry)) }
+    ensures { GivesValue result (basic_at little (textual signature) (at p.entry)) }
 {
     let (bytes, rest) = sign_of(p)?;
     if !is_signature(bytes) {
@@ -164,7 +164,7 @@ pub fn leaf_of<'a>(
     letter: u8,
     p: Place<'a>,
 ) -> Result<(Value, Place<'a>), ReadError>
-    ensures { Gives (λ x. (view x.0, at x.1)) result (leaf_at little letter (at p.entry)) }
+    ensures { GivesValue result (leaf_at little letter (at p.entry)) }
 {
     match letter {
         b's' => string_value(alloc, little, p),

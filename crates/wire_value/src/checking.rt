@@ -6,7 +6,7 @@ ghost use Rattle.wire_value.specs.Plain.{array, struct, variant, words, sig};
 ghost use Rattle.wire_value.specs.Spelling.{gap, first_item, is_path};
 ghost use Rattle.wire_value.specs.Sizes.{ends};
 ghost use Rattle.wire_value.specs.Reading.{is_string};
-ghost use Rattle.wire_value.specs.Checking.{is_letter, is_textual, within, checked, checked_items, checked_fields};
+ghost use Rattle.wire_value.specs.Checking.{is_letter, within, checked_number, checked_words, checked, checked_items, checked_fields};
 ghost use Rattle.wire_value.specs.View.{bit, view, views};
 
 use crate::parts::{alignment, gap_before, is_path, string_of};
@@ -32,7 +32,7 @@ fn within(end: usize, limit: usize) -> Option<usize>
 #[tactic(auto, using(crate::proofs::Checks::number_passes))]
 fn check_u8(number: u8, kind: &[u8], letter: u8, offset: usize, limit: usize) -> Option<usize>
     requires near { offset ≤ 2 ^ 50 }
-    ensures is { result ≡ (if is_letter letter kind.now && nat_lt number (2 ^ 8) then within limit (offset + gap 1 offset + 1) else None) }
+    ensures is { result ≡ checked_number limit letter kind.now number (2 ^ 8) 1 offset }
     ensures inside { IfSome result (λ e. e ≤ limit) }
 {
     if !is_letter(kind, letter) {
@@ -44,7 +44,7 @@ fn check_u8(number: u8, kind: &[u8], letter: u8, offset: usize, limit: usize) ->
 #[tactic(auto, using(crate::proofs::Checks::number_passes))]
 fn check_u16(number: u16, kind: &[u8], letter: u8, offset: usize, limit: usize) -> Option<usize>
     requires near { offset ≤ 2 ^ 50 }
-    ensures is { result ≡ (if is_letter letter kind.now && nat_lt number (2 ^ 16) then within limit (offset + gap 2 offset + 2) else None) }
+    ensures is { result ≡ checked_number limit letter kind.now number (2 ^ 16) 2 offset }
     ensures inside { IfSome result (λ e. e ≤ limit) }
 {
     if !is_letter(kind, letter) {
@@ -56,7 +56,7 @@ fn check_u16(number: u16, kind: &[u8], letter: u8, offset: usize, limit: usize) 
 #[tactic(auto, using(crate::proofs::Checks::number_passes))]
 fn check_u32(number: u32, kind: &[u8], letter: u8, offset: usize, limit: usize) -> Option<usize>
     requires near { offset ≤ 2 ^ 50 }
-    ensures is { result ≡ (if is_letter letter kind.now && nat_lt number (2 ^ 32) then within limit (offset + gap 4 offset + 4) else None) }
+    ensures is { result ≡ checked_number limit letter kind.now number (2 ^ 32) 4 offset }
     ensures inside { IfSome result (λ e. e ≤ limit) }
 {
     if !is_letter(kind, letter) {
@@ -68,7 +68,7 @@ fn check_u32(number: u32, kind: &[u8], letter: u8, offset: usize, limit: usize) 
 #[tactic(auto, using(crate::proofs::Checks::number_passes))]
 fn check_u64(number: u64, kind: &[u8], letter: u8, offset: usize, limit: usize) -> Option<usize>
     requires near { offset ≤ 2 ^ 50 }
-    ensures is { result ≡ (if is_letter letter kind.now && nat_lt number (2 ^ 64) then within limit (offset + gap 8 offset + 8) else None) }
+    ensures is { result ≡ checked_number limit letter kind.now number (2 ^ 64) 8 offset }
     ensures inside { IfSome result (λ e. e ≤ limit) }
 {
     if !is_letter(kind, letter) {
@@ -80,7 +80,7 @@ fn check_u64(number: u64, kind: &[u8], letter: u8, offset: usize, limit: usize) 
 #[tactic(auto, using(crate::proofs::Checks::flag_passes))]
 fn check_flag(flag: bool, kind: &[u8], offset: usize, limit: usize) -> Option<usize>
     requires near { offset ≤ 2 ^ 50 }
-    ensures is { result ≡ (if is_letter 98 kind.now && nat_lt (bit flag) 2 then within limit (offset + gap 4 offset + 4) else None) }
+    ensures is { result ≡ checked_number limit 98 kind.now (bit flag) 2 4 offset }
     ensures inside { IfSome result (λ e. e ≤ limit) }
 {
     if !is_letter(kind, b'b') {
@@ -102,7 +102,7 @@ fn is_short_string(bytes: &[u8]) -> bool
 
 fn check_string(text: &[u8], kind: &[u8], offset: usize, limit: usize) -> Option<usize>
     requires near { offset ≤ 2 ^ 50 }
-    ensures is { result ≡ (if is_letter 115 kind.now && is_textual string text.now then within limit (ends offset (words string text.now)) else None) }
+    ensures is { result ≡ checked_words limit string kind.now text.now offset }
     ensures inside { IfSome result (λ e. e ≤ limit) }
 {
     if !is_letter(kind, b's') || !is_short_string(text) {
@@ -113,7 +113,7 @@ fn check_string(text: &[u8], kind: &[u8], offset: usize, limit: usize) -> Option
 
 fn check_path(text: &[u8], kind: &[u8], offset: usize, limit: usize) -> Option<usize>
     requires near { offset ≤ 2 ^ 50 }
-    ensures is { result ≡ (if is_letter 111 kind.now && is_textual object_path text.now then within limit (ends offset (words object_path text.now)) else None) }
+    ensures is { result ≡ checked_words limit object_path kind.now text.now offset }
     ensures inside { IfSome result (λ e. e ≤ limit) }
 {
     if !is_letter(kind, b'o') || !is_short_string(text) || !is_path(text) {
@@ -124,7 +124,7 @@ fn check_path(text: &[u8], kind: &[u8], offset: usize, limit: usize) -> Option<u
 
 fn check_signature(text: &[u8], kind: &[u8], offset: usize, limit: usize) -> Option<usize>
     requires near { offset ≤ 2 ^ 50 }
-    ensures is { result ≡ (if is_letter 103 kind.now && is_textual signature text.now then within limit (ends offset (words signature text.now)) else None) }
+    ensures is { result ≡ checked_words limit signature kind.now text.now offset }
     ensures inside { IfSome result (λ e. e ≤ limit) }
 {
     if !is_letter(kind, b'g') || !is_signature(text) {

@@ -1,7 +1,9 @@
 //! The parts of a value as bytes, added to those of a message.
 
-ghost use Rattle.std.specs.Prelude.{◌≡◌, [], ◌∷◌, ◌++◌, ◌+◌, ◌<◌, ◌≤◌, ◌^◌, length, OnOk};
-ghost use Rattle.wire_value.specs.Spelling.{zeros, gap, word};
+ghost use Rattle.std.specs.Prelude.{◌<◌, ◌≤◌, ◌^◌, true, length};
+ghost use Rattle.wire_value.specs.Types.{string, signature};
+ghost use Rattle.wire_value.specs.Sizes.{Adds, padded};
+ghost use Rattle.wire_value.specs.Spelling.{zeros, gap, word, text_spelling};
 
 use crate::parts::gap_before;
 use byteorder::{BigEndian, ByteOrder, LittleEndian};
@@ -11,7 +13,7 @@ use std::alloc::AllocError;
 pub fn put_gap(out: &mut Vec<u8>, alignment: usize) -> Result<(), AllocError>
     requires some { 0 < alignment }
     requires small { alignment ≤ 8 }
-    ensures { OnOk result (out.new.items ≡ out.old.items ++ zeros (gap alignment (length out.old.items))) }
+    ensures { Adds result out.old.items out.new.items (λ n. zeros (gap alignment n)) }
 {
     for _ in 0..gap_before(alignment, out.len()) {
         out.push(0)?;
@@ -21,14 +23,14 @@ pub fn put_gap(out: &mut Vec<u8>, alignment: usize) -> Result<(), AllocError>
 
 #[tactic(auto, using(crate::proofs::Growing::word_8))]
 fn put_bare_8(out: &mut Vec<u8>, little: bool, number: u8) -> Result<(), AllocError>
-    ensures { OnOk result (out.new.items ≡ out.old.items ++ word little 1 number) }
+    ensures { Adds result out.old.items out.new.items (λ n. word little 1 number) }
 {
     out.push(number)?;
     Ok(())
 }
 
 pub fn put_u8(out: &mut Vec<u8>, little: bool, number: u8) -> Result<(), AllocError>
-    ensures { OnOk result (out.new.items ≡ out.old.items ++ (zeros (gap 1 (length out.old.items)) ++ word little 1 number)) }
+    ensures { Adds result out.old.items out.new.items (padded little 1 number) }
 {
     put_gap(out, 1)?;
     put_bare_8(out, little, number)
@@ -37,7 +39,7 @@ pub fn put_u8(out: &mut Vec<u8>, little: bool, number: u8) -> Result<(), AllocEr
 // Adds a number, lowest or highest byte first.
 #[tactic(auto, unfolding(crate::specs::Spelling::word))]
 fn put_bare_16(out: &mut Vec<u8>, little: bool, number: u16) -> Result<(), AllocError>
-    ensures { OnOk result (out.new.items ≡ out.old.items ++ word little 2 number) }
+    ensures { Adds result out.old.items out.new.items (λ n. word little 2 number) }
 {
     let mut bytes = [0; 2];
     if little {
@@ -50,7 +52,7 @@ fn put_bare_16(out: &mut Vec<u8>, little: bool, number: u16) -> Result<(), Alloc
 }
 
 pub fn put_u16(out: &mut Vec<u8>, little: bool, number: u16) -> Result<(), AllocError>
-    ensures { OnOk result (out.new.items ≡ out.old.items ++ (zeros (gap 2 (length out.old.items)) ++ word little 2 number)) }
+    ensures { Adds result out.old.items out.new.items (padded little 2 number) }
 {
     put_gap(out, 2)?;
     put_bare_16(out, little, number)
@@ -59,7 +61,7 @@ pub fn put_u16(out: &mut Vec<u8>, little: bool, number: u16) -> Result<(), Alloc
 // Adds a number, lowest or highest byte first.
 #[tactic(auto, unfolding(crate::specs::Spelling::word))]
 fn put_bare_32(out: &mut Vec<u8>, little: bool, number: u32) -> Result<(), AllocError>
-    ensures { OnOk result (out.new.items ≡ out.old.items ++ word little 4 number) }
+    ensures { Adds result out.old.items out.new.items (λ n. word little 4 number) }
 {
     let mut bytes = [0; 4];
     if little {
@@ -72,7 +74,7 @@ fn put_bare_32(out: &mut Vec<u8>, little: bool, number: u32) -> Result<(), Alloc
 }
 
 pub fn put_u32(out: &mut Vec<u8>, little: bool, number: u32) -> Result<(), AllocError>
-    ensures { OnOk result (out.new.items ≡ out.old.items ++ (zeros (gap 4 (length out.old.items)) ++ word little 4 number)) }
+    ensures { Adds result out.old.items out.new.items (padded little 4 number) }
 {
     put_gap(out, 4)?;
     put_bare_32(out, little, number)
@@ -81,7 +83,7 @@ pub fn put_u32(out: &mut Vec<u8>, little: bool, number: u32) -> Result<(), Alloc
 // Adds a number, lowest or highest byte first.
 #[tactic(auto, unfolding(crate::specs::Spelling::word))]
 fn put_bare_64(out: &mut Vec<u8>, little: bool, number: u64) -> Result<(), AllocError>
-    ensures { OnOk result (out.new.items ≡ out.old.items ++ word little 8 number) }
+    ensures { Adds result out.old.items out.new.items (λ n. word little 8 number) }
 {
     let mut bytes = [0; 8];
     if little {
@@ -94,7 +96,7 @@ fn put_bare_64(out: &mut Vec<u8>, little: bool, number: u64) -> Result<(), Alloc
 }
 
 pub fn put_u64(out: &mut Vec<u8>, little: bool, number: u64) -> Result<(), AllocError>
-    ensures { OnOk result (out.new.items ≡ out.old.items ++ (zeros (gap 8 (length out.old.items)) ++ word little 8 number)) }
+    ensures { Adds result out.old.items out.new.items (padded little 8 number) }
 {
     put_gap(out, 8)?;
     put_bare_64(out, little, number)
@@ -104,7 +106,7 @@ pub fn put_u64(out: &mut Vec<u8>, little: bool, number: u64) -> Result<(), Alloc
 #[tactic(auto, using(std::proofs::lemmas::List::append_assoc))]
 pub fn put_text(out: &mut Vec<u8>, little: bool, text: &[u8]) -> Result<(), AllocError>
     requires { length text.now < 2 ^ 32 }
-    ensures { OnOk result (out.new.items ≡ out.old.items ++ (zeros (gap 4 (length out.old.items)) ++ (word little 4 (length text.now) ++ (text.now ++ 0 ∷ [])))) }
+    ensures { Adds result out.old.items out.new.items (λ n. text_spelling little n string text.now) }
 {
     put_u32(out, little, text.len() as u32)?;
     out.extend_from_slice(text)?;
@@ -116,7 +118,7 @@ pub fn put_text(out: &mut Vec<u8>, little: bool, text: &[u8]) -> Result<(), Allo
 #[tactic(auto, using(std::proofs::lemmas::List::append_assoc))]
 pub fn put_signature(out: &mut Vec<u8>, text: &[u8]) -> Result<(), AllocError>
     requires { length text.now ≤ 255 }
-    ensures { OnOk result (out.new.items ≡ out.old.items ++ (length text.now ∷ (text.now ++ 0 ∷ []))) }
+    ensures { Adds result out.old.items out.new.items (λ n. text_spelling true n signature text.now) }
 {
     out.push(text.len() as u8)?;
     out.extend_from_slice(text)?;

@@ -1,12 +1,10 @@
 //! Values read from the bytes of a message.
 
-ghost use Rattle.std.specs.Prelude.{◌≡◌, ◌≤◌, ℕ, Some, IfOk, suc, length};
+ghost use Rattle.std.specs.Prelude.{◌≤◌};
 ghost use Rattle.wire_value.specs.Types.{IsType, IsItemType, IsSignature};
-ghost use Rattle.wire_value.specs.Plain.{Plain, Plains};
-ghost use Rattle.wire_value.specs.Reading.{At, items_at, fields_at, value_at};
-ghost use Rattle.wire_value.specs.Standing.{Stands, StandAll, StandItems};
-ghost use Rattle.wire_value.specs.Gives.{Gives, at};
-ghost use Rattle.wire_value.specs.View.{view, views};
+ghost use Rattle.wire_value.specs.Reading.{all_items_at, values_at, value_at};
+ghost use Rattle.wire_value.specs.Gives.{GivesValue, GivesValues, GivesItems, at};
+ghost use Rattle.wire_value.specs.Gives.{ValueIsThere, NoValueMissed, ValuesAreThere, NoValuesMissed, ItemsAreThere, NoItemsMissed};
 
 use crate::error::ReadError;
 use crate::place::Place;
@@ -26,9 +24,9 @@ pub fn read_value<'a>(
 ) -> Result<(Value, Place<'a>), ReadError>
     requires depth { depth ≤ 64 }
     requires kind { IsType kind.now }
-    ensures found { IfOk result (λ x. Stands little depth kind.now (at place.entry) (view x.0) (at x.1)) }
-    ensures only { (v : Plain) (q : At) → Stands little depth kind.now (at place.entry) v q → Gives {Y = Plain × At} (λ x. (view x.0, at x.1)) result (Some (v, q)) }
-    ensures exact { Gives (λ x. (view x.0, at x.1)) result (value_at depth little kind.now (at place.entry)) }
+    ensures found { ValueIsThere little depth kind.now (at place.entry) result }
+    ensures only { NoValueMissed little depth kind.now (at place.entry) result }
+    ensures exact { GivesValue result (value_at depth little kind.now (at place.entry)) }
 {
     value_of(alloc, little, depth, kind, place)
 }
@@ -44,9 +42,9 @@ pub fn read_values<'a>(
 ) -> Result<(Vec<Value>, Place<'a>), ReadError>
     requires depth { depth ≤ 64 }
     requires signature { IsSignature signature.now }
-    ensures found { IfOk result (λ x. StandAll little depth signature.now (at place.entry) (views x.0.items) (at x.1)) }
-    ensures only { (vs : Plains) (q : At) → StandAll little depth signature.now (at place.entry) vs q → Gives {Y = Plains × At} (λ x. (views x.0.items, at x.1)) result (Some (vs, q)) }
-    ensures exact { Gives (λ x. (views x.0.items, at x.1)) result (fields_at (value_at depth little) (suc (length signature.now)) signature.now (at place.entry)) }
+    ensures found { ValuesAreThere little depth signature.now (at place.entry) result }
+    ensures only { NoValuesMissed little depth signature.now (at place.entry) result }
+    ensures exact { GivesValues result (values_at depth little signature.now (at place.entry)) }
 {
     fields_of(alloc, little, depth, signature, place)
 }
@@ -62,9 +60,9 @@ pub fn read_items<'a>(
 ) -> Result<Vec<Value>, ReadError>
     requires depth { depth ≤ 64 }
     requires item { IsItemType item.now }
-    ensures found { IfOk result (λ x. StandItems little depth item.now (at place.entry) (views x.items)) }
-    ensures only { (vs : Plains) → StandItems little depth item.now (at place.entry) vs → Gives {Y = Plains} (λ x. views x.items) result (Some vs) }
-    ensures exact { Gives (λ x. views x.items) result (items_at (value_at depth little item.now) (length place.entry.bytes.now) (at place.entry)) }
+    ensures found { ItemsAreThere little depth item.now (at place.entry) result }
+    ensures only { NoItemsMissed little depth item.now (at place.entry) result }
+    ensures exact { GivesItems result (all_items_at depth little item.now (at place.entry)) }
 {
     items_of(alloc, little, depth, item, place)
 }

@@ -3,8 +3,8 @@
 ghost use Rattle.std.specs.Prelude.{◌≡◌, ◌≢◌, ◌∷◌, ◌<◌, ◌≤◌, suc, length};
 ghost use Rattle.wire_value.specs.Types.{IsType, IsItemType, IsEntryType, byte, boolean, int16, uint16, int32, uint32, int64, uint64, double, unix_fd, string, object_path, signature, fixed, textual};
 ghost use Rattle.wire_value.specs.Spelling.{alignment};
-ghost use Rattle.wire_value.specs.Reading.{basic_at, leaf_at, items_at, body_at, array_at, fields_at, struct_at, entry_at, variant_at, value_at};
-ghost use Rattle.wire_value.specs.Gives.{Gives, at};
+ghost use Rattle.wire_value.specs.Reading.{basic_at, leaf_at, all_items_at, body_at, array_value_at, values_at, struct_at, entry_at, variant_at, value_at};
+ghost use Rattle.wire_value.specs.Gives.{Gives, GivesValue, GivesValues, GivesItems, at};
 ghost use Rattle.wire_value.specs.View.{view, views};
 
 use crate::basic::leaf_of;
@@ -46,7 +46,7 @@ pub fn value_of<'a>(
 ) -> Result<(Value, Place<'a>), ReadError>
     requires small { depth ≤ 64 }
     requires kind { IsItemType kind.now }
-    ensures { Gives (λ x. (view x.0, at x.1)) result (value_at depth little kind.now (at p.entry)) }
+    ensures { GivesValue result (value_at depth little kind.now (at p.entry)) }
 {
     let letter = first_letter(kind);
     if depth == 0 {
@@ -78,7 +78,7 @@ fn array_of<'a>(
 ) -> Result<(Value, Place<'a>), ReadError>
     requires small { depth ≤ 64 }
     requires kind { IsItemType item.now }
-    ensures { Gives (λ x. (view x.0, at x.1)) result (array_at (value_at depth little item.now) little item.now (at p.entry)) }
+    ensures { GivesValue result (array_value_at depth little item.now (at p.entry)) }
 {
     let (inside, after) = body_of(little, item, p)?;
     let items = items_of(alloc, little, depth, item, inside)?;
@@ -99,7 +99,7 @@ pub fn items_of<'a>(
 ) -> Result<Vec<Value>, ReadError>
     requires small { depth ≤ 64 }
     requires kind { IsItemType item.now }
-    ensures { Gives (λ v. views v.items) result (items_at (value_at depth little item.now) (length p.entry.bytes.now) (at p.entry)) }
+    ensures { GivesItems result (all_items_at depth little item.now (at p.entry)) }
 {
     let mut found = Vec::new(alloc);
     let mut rest = p;
@@ -121,7 +121,7 @@ fn struct_of<'a>(
     p: Place<'a>,
 ) -> Result<(Value, Place<'a>), ReadError>
     requires small { depth ≤ 64 }
-    ensures { Gives (λ x. (view x.0, at x.1)) result (struct_at (value_at depth little) types.now (at p.entry)) }
+    ensures { GivesValue result (struct_at (value_at depth little) types.now (at p.entry)) }
 {
     let rest = gap_of(8, p)?;
     let (fields, rest) = fields_of(alloc, little, depth, types, rest)?;
@@ -137,7 +137,7 @@ pub fn fields_of<'a>(
     p: Place<'a>,
 ) -> Result<(Vec<Value>, Place<'a>), ReadError>
     requires small { depth ≤ 64 }
-    ensures { Gives (λ x. (views x.0.items, at x.1)) result (fields_at (value_at depth little) (suc (length types.now)) types.now (at p.entry)) }
+    ensures { GivesValues result (values_at depth little types.now (at p.entry)) }
 {
     let mut found = Vec::new(alloc);
     let mut types = types;
@@ -165,7 +165,7 @@ fn entry_of<'a>(
 ) -> Result<(Value, Place<'a>), ReadError>
     requires small { depth ≤ 64 }
     requires types { IsEntryType (123 ∷ types.now) }
-    ensures { Gives (λ x. (view x.0, at x.1)) result (entry_at (value_at depth little) types.now (at p.entry)) }
+    ensures { GivesValue result (entry_at (value_at depth little) types.now (at p.entry)) }
 {
     let (key_type, others) = types.split_at(1);
     let value_type = others.split_at(types.len() - 2).0;
@@ -186,7 +186,7 @@ fn variant_of<'a>(
     p: Place<'a>,
 ) -> Result<(Value, Place<'a>), ReadError>
     requires small { depth ≤ 64 }
-    ensures { Gives (λ x. (view x.0, at x.1)) result (variant_at (value_at depth little) (at p.entry)) }
+    ensures { GivesValue result (variant_at (value_at depth little) (at p.entry)) }
 {
     let (kind, rest) = sign_of(p)?;
     if !is_single(kind) {

@@ -2,9 +2,9 @@
 
 ghost use Rattle.std.specs.Prelude.{◌≡◌, true, false, ◌++◌, ◌+◌, ◌<◌, ◌≤◌, ◌^◌, length, OnOk};
 ghost use Rattle.wire_value.specs.Plain.{sig, sigs};
-ghost use Rattle.wire_value.specs.Spelling.{first_item, gap};
+ghost use Rattle.wire_value.specs.Spelling.{gap};
 ghost use Rattle.wire_value.specs.Reading.{head};
-ghost use Rattle.wire_value.specs.Sizes.{ends, end_all};
+ghost use Rattle.wire_value.specs.Sizes.{behind_type, first_in, ends, end_all};
 ghost use Rattle.wire_value.specs.View.{view, views};
 
 use crate::parts::{alignment, gap_before};
@@ -173,8 +173,8 @@ pub fn end_of(value: &Value, offset: usize) -> usize
 #[cycle(ends)]
 #[tactic(auto, using(crate::proofs::Ends::grows, crate::proofs::Ends::end_grows))]
 fn array_end(item: &[u8], items: &[Value], offset: usize) -> usize
-    requires { end_all (first_item item.now (offset + gap 4 offset + 4)) (views items.now) ≤ 2 ^ 32 }
-    ensures { result ≡ end_all (first_item item.now (offset + gap 4 offset + 4)) (views items.now) }
+    requires { end_all (first_in item.now offset) (views items.now) ≤ 2 ^ 32 }
+    ensures { result ≡ end_all (first_in item.now offset) (views items.now) }
 {
     let start = offset + gap_before(4, offset) + 4;
     end_of_all(items, start + gap_before(alignment(item), start))
@@ -183,8 +183,8 @@ fn array_end(item: &[u8], items: &[Value], offset: usize) -> usize
 #[cycle(ends)]
 #[tactic(auto, using(crate::proofs::Ends::grows, crate::proofs::Ends::end_grows))]
 fn variant_end(inner: &Value, offset: usize) -> usize
-    requires { ends (offset + 1 + length (sig (view inner.now)) + 1) (view inner.now) ≤ 2 ^ 32 }
-    ensures { result ≡ ends (offset + 1 + length (sig (view inner.now)) + 1) (view inner.now) }
+    requires { ends (behind_type offset (view inner.now)) (view inner.now) ≤ 2 ^ 32 }
+    ensures { result ≡ ends (behind_type offset (view inner.now)) (view inner.now) }
 {
     end_of(inner, offset + 1 + type_len(inner, 4_294_967_296) + 1)
 }

@@ -2,7 +2,7 @@
 
 ghost use Rattle.std.specs.Prelude.{◌≡◌, ◌+◌, ◌*◌, ◌≤◌, ◌^◌, ℕ, Bool, Some, IfSome};
 ghost use Rattle.wire_value.specs.Types.{IsType, IsSignature};
-ghost use Rattle.wire_value.specs.Standing.{MayStand, MayStandAll};
+ghost use Rattle.wire_value.specs.Standing.{EndsAt, EndsOnlyAt, AllEndAt, AllEndOnlyAt};
 ghost use Rattle.wire_value.specs.Checking.{checked, checked_fields};
 ghost use Rattle.wire_value.specs.View.{view, views};
 
@@ -23,8 +23,8 @@ pub fn end_of_value(
     requires depth { depth ≤ 64 }
     requires near { offset + 300 * depth ≤ 2 ^ 50 }
     requires small { limit ≤ 2 ^ 40 }
-    ensures found { (little : Bool) → IfSome result (λ e. MayStand little depth kind.now offset (view value.now) e × (e ≤ limit)) }
-    ensures only { (little : Bool) (e : ℕ) → MayStand little depth kind.now offset (view value.now) e → e ≤ limit → result ≡ Some e }
+    ensures found { EndsAt limit depth kind.now offset (view value.now) result }
+    ensures only { EndsOnlyAt limit depth kind.now offset (view value.now) result }
 {
     check(value, kind, depth, offset, limit)
 }
@@ -41,8 +41,8 @@ pub fn end_of_values(
     requires depth { depth ≤ 64 }
     requires near { offset + 300 * depth ≤ 2 ^ 50 }
     requires small { limit ≤ 2 ^ 40 }
-    ensures found { (little : Bool) → IfSome result (λ e. MayStandAll little depth signature.now offset (views values.now) e × (e ≤ limit)) }
-    ensures only { (little : Bool) (e : ℕ) → MayStandAll little depth signature.now offset (views values.now) e → e ≤ limit → result ≡ Some e }
+    ensures found { AllEndAt limit depth signature.now offset (views values.now) result }
+    ensures only { AllEndOnlyAt limit depth signature.now offset (views values.now) result }
 {
     check_fields(values, signature, depth, offset, limit)
 }

@@ -3,7 +3,7 @@
 ghost use Rattle.std.specs.Prelude.{◌≡◌, ◌++◌, ◌<◌, ◌^◌, length, OnOk, IfOk};
 ghost use Rattle.wire_value.specs.Plain.{sigs};
 ghost use Rattle.wire_value.specs.Spelling.{spell, spells, IsValue, AreValues};
-ghost use Rattle.wire_value.specs.Sizes.{ends, end_all};
+ghost use Rattle.wire_value.specs.Sizes.{Adds, ends, end_all};
 ghost use Rattle.wire_value.specs.View.{view, views};
 
 use crate::sizes::put_types;
@@ -18,7 +18,7 @@ use updater_text::NoMemory;
 pub fn write_value(out: &mut Vec<u8>, little: bool, value: &Value) -> Result<(), NoMemory>
     requires valid { IsValue little (length out.old.items) (view value.now) }
     requires fits { ends (length out.old.items) (view value.now) < 2 ^ 32 }
-    ensures { OnOk result (out.new.items ≡ out.old.items ++ spell little (length out.old.items) (view value.now)) }
+    ensures { Adds result out.old.items out.new.items (λ n. spell little n (view value.now)) }
 {
     put(out, little, value)?;
     Ok(())
@@ -30,7 +30,7 @@ pub fn write_value(out: &mut Vec<u8>, little: bool, value: &Value) -> Result<(),
 pub fn write_values(out: &mut Vec<u8>, little: bool, values: &[Value]) -> Result<(), NoMemory>
     requires valid { AreValues little (length out.old.items) (views values.now) }
     requires fits { end_all (length out.old.items) (views values.now) < 2 ^ 32 }
-    ensures { OnOk result (out.new.items ≡ out.old.items ++ spells little (length out.old.items) (views values.now)) }
+    ensures { Adds result out.old.items out.new.items (λ n. spells little n (views values.now)) }
 {
     put_all(out, little, values)?;
     Ok(())

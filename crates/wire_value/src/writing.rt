@@ -5,7 +5,7 @@ ghost use Rattle.byteorder.specs.Endian.{little_number};
 ghost use Rattle.wire_value.specs.Types.{boolean, double};
 ghost use Rattle.wire_value.specs.Plain.{number, sig, array, struct, variant};
 ghost use Rattle.wire_value.specs.Spelling.{gap, first_item, spell, spells, IsValue};
-ghost use Rattle.wire_value.specs.Sizes.{ends, end_all, Each};
+ghost use Rattle.wire_value.specs.Sizes.{Adds, AddsValue, aligned, first_in, ends, end_all, Each};
 ghost use Rattle.wire_value.specs.View.{bit, view, views};
 
 use crate::parts::{alignment, gap_before};
@@ -16,13 +16,13 @@ use byteorder::{ByteOrder, LittleEndian};
 use std::alloc::AllocError;
 
 fn put_flag(out: &mut Vec<u8>, little: bool, flag: bool) -> Result<(), AllocError>
-    ensures { OnOk result (out.new.items ≡ out.old.items ++ spell little (length out.old.items) (number boolean (bit flag))) }
+    ensures { AddsValue little result out.old.items out.new.items (number boolean (bit flag)) }
 {
     put_u32(out, little, u32::from(flag))
 }
 
 fn put_double(out: &mut Vec<u8>, little: bool, bytes: &[u8; 8]) -> Result<(), AllocError>
-    ensures { OnOk result (out.new.items ≡ out.old.items ++ spell little (length out.old.items) (number double (little_number 8 bytes.now))) }
+    ensures { AddsValue little result out.old.items out.new.items (number double (little_number 8 bytes.now)) }
 {
     put_u64(out, little, LittleEndian::read_u64(bytes))
 }
@@ -33,7 +33,7 @@ fn put_double(out: &mut Vec<u8>, little: bool, bytes: &[u8; 8]) -> Result<(), Al
 pub fn put(out: &mut Vec<u8>, little: bool, value: &Value) -> Result<(), AllocError>
     requires valid { IsValue little (length out.old.items) (view value.now) }
     requires fits { ends (length out.old.items) (view value.now) < 2 ^ 32 }
-    ensures { OnOk result (out.new.items ≡ out.old.items ++ spell little (length out.old.items) (view value.now)) }
+    ensures { AddsValue little result out.old.items out.new.items (view value.now) }
 {
     match value {
         Value::Byte(number) => put_u8(out, little, *number),
@@ -66,9 +66,9 @@ fn put_array(
     item: &[u8],
     items: &[Value],
 ) -> Result<(), AllocError>
-    requires valid { Each little (first_item item.now (length out.old.items + gap 4 (length out.old.items) + 4)) (views items.now) }
-    requires fits { end_all (first_item item.now (length out.old.items + gap 4 (length out.old.items) + 4)) (views items.now) < 2 ^ 32 }
-    ensures { OnOk result (out.new.items ≡ out.old.items ++ spell little (length out.old.items) (array item.now (views items.now))) }
+    requires valid { Each little (first_in item.now (length out.old.items)) (views items.now) }
+    requires fits { end_all (first_in item.now (length out.old.items)) (views items.now) < 2 ^ 32 }
+    ensures { AddsValue little result out.old.items out.new.items (array item.now (views items.now)) }
 {
     let start = out.len() + gap_before(4, out.len()) + 4;
     let first = start + gap_before(alignment(item), start);
@@ -83,7 +83,7 @@ fn put_array(
 pub fn put_all(out: &mut Vec<u8>, little: bool, values: &[Value]) -> Result<(), AllocError>
     requires valid { Each little (length out.old.items) (views values.now) }
     requires fits { end_all (length out.old.items) (views values.now) < 2 ^ 32 }
-    ensures { OnOk result (out.new.items ≡ out.old.items ++ spells little (length out.old.items) (views values.now)) }
+    ensures { Adds result out.old.items out.new.items (λ n. spells little n (views values.now)) }
 {
     for value in values {
         put(out, little, value)?;
@@ -94,9 +94,9 @@ pub fn put_all(out: &mut Vec<u8>, little: bool, values: &[Value]) -> Result<(), 
 #[cycle(write)]
 #[tactic(auto, using(crate::proofs::Ends::grows, crate::proofs::Ends::end_grows, crate::proofs::Written::gap_len, crate::proofs::Written::struct_out))]
 fn put_struct(out: &mut Vec<u8>, little: bool, fields: &[Value]) -> Result<(), AllocError>
-    requires valid { Each little (length out.old.items + gap 8 (length out.old.items)) (views fields.now) }
-    requires fits { end_all (length out.old.items + gap 8 (length out.old.items)) (views fields.now) < 2 ^ 32 }
-    ensures { OnOk result (out.new.items ≡ out.old.items ++ spell little (length out.old.items) (struct (views fields.now))) }
+    requires valid { Each little (aligned 8 (length out.old.items)) (views fields.now) }
+    requires fits { end_all (aligned 8 (length out.old.items)) (views fields.now) < 2 ^ 32 }
+    ensures { AddsValue little result out.old.items out.new.items (struct (views fields.now)) }
 {
     put_gap(out, 8)?;
     put_all(out, little, fields)
@@ -106,9 +106,9 @@ fn put_struct(out: &mut Vec<u8>, little: bool, fields: &[Value]) -> Result<(), A
 #[tactic(auto, using(crate::proofs::Ends::grows, crate::proofs::Ends::end_grows, std::proofs::lemmas::List::append_assoc))]
 fn put_variant(out: &mut Vec<u8>, little: bool, inner: &Value) -> Result<(), AllocError>
     requires short { length (sig (view inner.now)) ≤ 255 }
-    requires valid { IsValue little (length out.old.items + 1 + length (sig (view inner.now)) + 1) (view inner.now) }
-    requires fits { ends (length out.old.items + 1 + length (sig (view inner.now)) + 1) (view inner.now) < 2 ^ 32 }
-    ensures { OnOk result (out.new.items ≡ out.old.items ++ spell little (length out.old.items) (variant (view inner.now))) }
+    requires valid { IsValue little (length out.old.items) (variant (view inner.now)) }
+    requires fits { ends (length out.old.items) (variant (view inner.now)) < 2 ^ 32 }
+    ensures { AddsValue little result out.old.items out.new.items (variant (view inner.now)) }
 {
     out.push(type_len(inner, 255) as u8)?;
     put_type(out, inner)?;
