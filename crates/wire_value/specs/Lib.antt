@@ -8,3 +8,4 @@ pub mod Laws
 pub mod Standing
 pub mod Sizes
 pub mod Checking
+pub mod Lent

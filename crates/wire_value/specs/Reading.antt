@@ -61,6 +61,10 @@ type_at (suc m) a st s =
     else if head s == 40 then (if st == 0 then None else (type_at m a (st - 1) (drop 1 s) >>= types_until (type_at m a (st - 1)) (length (drop 1 s))))
     else None
 
+-- a type in which at most so many arrays and structs nest
+abbrev pub type_within : ℕ → ℕ → List ℕ → Option (List ℕ)
+type_within a st s = type_at (a + st) a st s
+
 abbrev pub one_type : List ℕ → Option (List ℕ)
 one_type s = type_at 64 32 32 s
 

@@ -1,5 +1,5 @@
 -- The types of D-Bus values, and how signatures write them (D-Bus specification, "Type System").
-use Rattle.std.specs.Prelude.{◌≡◌, ℕ, suc, ◌≤◌, max, List, [], ◌∷◌, ◌++◌, length, ◌⊎◌}
+use Rattle.std.specs.Prelude.{◌≡◌, ℕ, suc, ◌-◌, ◌<◌, ◌≤◌, max, List, [], ◌∷◌, ◌++◌, length, take, ◌⊎◌}
 
 -- the types of a fixed length; a UNIX_FD is an index into the descriptors that come with the message
 pub data Fixed : Type 0 where
@@ -141,3 +141,12 @@ pub record IsSignature (s : List ℕ) : Type 0 where
   pub short : length s ≤ 255
   pub arrays : all_arrays kinds ≤ 32
   pub structs : all_structs kinds ≤ 32
+
+-- the rest stands behind the first complete type of a text
+abbrev pub IsBehindType : List ℕ → List ℕ → Type 0
+IsBehindType types rest = IsType (take (length types - length rest) types) × (length rest < length types)
+
+-- the first complete type of a text, and the rest
+abbrev pub IsFirstType : List ℕ → List ℕ → List ℕ → Type 0
+IsFirstType types first rest =
+    (first ≡ take (length types - length rest) types) × IsType first × (length rest < length types)

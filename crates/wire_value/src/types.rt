@@ -1,8 +1,9 @@
 //! Types, as a signature writes them.
 
 ghost use Rattle.std.specs.Prelude.{◌≡◌, ◌+◌, ◌-◌, ◌<◌, ◌≤◌, length, take, drop, IfSome, slice_index, option_map, true, ◌↔◌};
-ghost use Rattle.wire_value.specs.Types.{IsType, IsSignature};
+ghost use Rattle.wire_value.specs.Types.{IsType, IsBehindType, IsFirstType, IsSignature};
 ghost use Rattle.wire_value.specs.Reading as spec;
+ghost use Rattle.wire_value.specs.Lent.{lent};
 
 // The first letter, and 0 where there is none.
 pub fn first_letter(text: &[u8]) -> u8
@@ -37,7 +38,7 @@ pub fn is_basic(letter: u8) -> bool
 #[tactic(auto, using(crate::proofs::TypeSteps::t_leaf, crate::proofs::TypeSteps::t_empty, crate::proofs::TypeSteps::t_no_array, crate::proofs::TypeSteps::t_array, crate::proofs::TypeSteps::t_no_struct, crate::proofs::TypeSteps::t_struct_none, crate::proofs::TypeSteps::t_struct_some, crate::proofs::TypeSteps::t_other))]
 fn type_rest(types: &[u8], arrays: usize, structs: usize) -> Option<&[u8]>
     requires { arrays + structs ≤ 64 }
-    ensures { option_map (λ r. r.now) result ≡ spec.type_at (arrays + structs) arrays structs types.now }
+    ensures { lent result ≡ spec.type_within arrays structs types.now }
 {
     let letter = first_letter(types);
     let inner = behind_letter(types);
@@ -65,7 +66,7 @@ fn type_rest(types: &[u8], arrays: usize, structs: usize) -> Option<&[u8]>
 #[tactic(auto, using(crate::proofs::TypeSteps::i_type, crate::proofs::TypeSteps::i_no_key, crate::proofs::TypeSteps::i_none, crate::proofs::TypeSteps::i_open, crate::proofs::TypeSteps::i_entry))]
 fn item_rest(types: &[u8], arrays: usize, structs: usize) -> Option<&[u8]>
     requires { arrays + structs ≤ 64 }
-    ensures { option_map (λ r. r.now) result ≡ spec.item_rest (spec.type_at (arrays + structs) arrays structs) types.now }
+    ensures { lent result ≡ spec.item_rest (spec.type_within arrays structs) types.now }
 {
     if first_letter(types) != b'{' {
         return type_rest(types, arrays, structs);
@@ -86,7 +87,7 @@ fn item_rest(types: &[u8], arrays: usize, structs: usize) -> Option<&[u8]>
 #[tactic(auto, using(crate::proofs::TypeSteps::u_end, crate::proofs::TypeSteps::u_none, crate::proofs::TypeSteps::u_more, crate::proofs::TypeSteps::u_out))]
 fn types_rest(types: &[u8], arrays: usize, structs: usize, most: usize) -> Option<&[u8]>
     requires { arrays + structs ≤ 64 }
-    ensures { option_map (λ r. r.now) result ≡ spec.types_until (spec.type_at (arrays + structs) arrays structs) most types.now }
+    ensures { lent result ≡ spec.types_until (spec.type_within arrays structs) most types.now }
 {
     let mut types = types;
     for _ in 0..most {
@@ -101,8 +102,8 @@ fn types_rest(types: &[u8], arrays: usize, structs: usize, most: usize) -> Optio
 /// What stands behind the first complete type.
 #[tactic(auto, using(crate::proofs::Signatures::type_front))]
 pub fn behind_type(types: &[u8]) -> Option<&[u8]>
-    ensures rest { option_map (λ r. r.now) result ≡ spec.one_type types.now }
-    ensures kind { IfSome result (λ r. IsType (take (length types.now - length r.now) types.now) × (length r.now < length types.now)) }
+    ensures rest { lent result ≡ spec.one_type types.now }
+    ensures kind { IfSome result (λ r. IsBehindType types.now r.now) }
 {
     type_rest(types, 32, 32)
 }
@@ -110,7 +111,7 @@ pub fn behind_type(types: &[u8]) -> Option<&[u8]>
 /// The first complete type, and what stands behind it.
 pub fn first_type(types: &[u8]) -> Option<(&[u8], &[u8])>
     ensures rest { option_map (λ r. r.1.now) result ≡ spec.one_type types.now }
-    ensures kind { IfSome result (λ r. (r.0.now ≡ take (length types.now - length r.1.now) types.now) × IsType r.0.now × (length r.1.now < length types.now)) }
+    ensures kind { IfSome result (λ r. IsFirstType types.now r.0.now r.1.now) }
 {
     let rest = behind_type(types)?;
     Some((types.split_at(types.len() - rest.len()).0, rest))
