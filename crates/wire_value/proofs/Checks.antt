@@ -13,7 +13,7 @@ use Rattle.wire_value.specs.Reading.{◌>>=◌, head, is_end, one_type}
 use Rattle.wire_value.specs.View.{bit}
 use Rattle.wire_value.specs.Checking.{is_letter, is_textual, is_variant_type, within, array_within, checked, checked_items, checked_fields}
 use Rattle.wire_value.proofs.Steps.{bind_some, if_some_is, both_true, string_takes, string_is}
-use Rattle.wire_value.proofs.TypeLaws.{none_some, type_again, text_len, not_struct}
+use Rattle.wire_value.proofs.TypeLaws.{typed, headed, none_some, type_again, text_len, not_struct}
 use Rattle.wire_value.proofs.Signatures.{signature_is, signature_again, single_is, single_again, take_front, long_is_not}
 use Rattle.wire_value.proofs.Again.{type_goes_on}
 use Rattle.wire_value.proofs.ReadSteps.{item_type, entry_type}
@@ -71,10 +71,6 @@ bytes_same xs ys e = (bytes_eq-Decides xs ys).0 e
 bytes_again : (xs : List ℕ) → bytes_eq xs xs ≡ true
 bytes_again xs = (bytes_eq-Decides xs xs).1 refl
 
-headed : (s : List ℕ) (c : ℕ) → head s ≡ c → 0 < c → c ∷ drop 1 s ≡ s
-headed [] c e h = absurd (omega arith)
-headed (x ∷ s) c e h = ap (λ (y : ℕ). y ∷ s) (sym e)
-
 -- ---- the types inside
 
 record StructType (s : List ℕ) : Type 0 where
@@ -93,9 +89,6 @@ struct_of (ty_struct k ks) s is u w e = record { kind = k; kinds = ks; is = is; 
 
 struct_type : (s : List ℕ) → IsItemType s → head s ≡ 40 → StructType s
 struct_type s t e = elim t [ inl h ↦ struct_of h.kind s h.is h.arrays h.structs e | inr h ↦ absurd (omega (arith, ap head h.is)) ]
-
-typed : (k : Kind) → arrays k ≤ 32 → structs k ≤ 32 → IsType (text k)
-typed k a b = record { kind = k; is = refl; arrays = a; structs = b }
 
 module _ (little : Bool) (limit : ℕ) where
   pub record Checked (d : ℕ) (s : List ℕ) (n : ℕ) (v : Plain) (e : ℕ) : Type 0 where
@@ -154,7 +147,7 @@ module _ (little : Bool) (limit : ℕ) where
         let g = if_some_is (leb o.0 (first + 2 ^ 26)) o.0 e o.2 in
         let few = leb-true _ _ g.0 in
         record {
-          is = ap (λ (x : List ℕ). 97 ∷ x) (sym same) ∙ headed s 97 at_a (omega arith);
+          is = ap (λ (x : List ℕ). 97 ∷ x) (sym same) ∙ sym (headed s (drop 1 s) 97 at_a refl (omega arith));
           valid = (inner, omega (arith, end_is little vs first, items.ends, few), items.valid);
           nest = omega (arith, items.nests, some);
           ends = items.ends ∙ g.1;
@@ -193,7 +186,7 @@ module _ (little : Bool) (limit : ℕ) where
         let value = checked_means v (d - 1) o.0 e (text y.value) (inl (typed y.value y.arrays y.structs)) (subst (λ (x : List ℕ). checked limit (d - 1) x o.0 v ≡ Some e) value_is o.2) in
         let behind : o.0 ≡ m + length (spell little m k) = sym key.ends ∙ sym (ends_is little k m) in
         record {
-          is = ap (λ (x : List ℕ). 123 ∷ (x ++ (sig v ++ 125 ∷ []))) key.is ∙ ap (λ (x : List ℕ). 123 ∷ (letter y.key ∷ (x ++ 125 ∷ []))) value.is ∙ sym y.is ∙ headed s 123 at_brace (omega arith);
+          is = ap (λ (x : List ℕ). 123 ∷ (x ++ (sig v ++ 125 ∷ []))) key.is ∙ ap (λ (x : List ℕ). 123 ∷ (letter y.key ∷ (x ++ 125 ∷ []))) value.is ∙ sym y.is ∙ sym (headed s (drop 1 s) 123 at_brace refl (omega arith));
           valid = ((y.key, key.is), subst IsType (sym value.is) (typed y.value y.arrays y.structs), key.valid, subst (λ (i : ℕ). IsValue little i v) behind value.valid);
           nest = omega (arith, key.nest, value.nest, some);
           ends = ap (λ (i : ℕ). ends i v) key.ends ∙ value.ends;

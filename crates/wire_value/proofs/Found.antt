@@ -7,7 +7,7 @@ use Rattle.wire_value.specs.Plain.{Plain, number, words, array, struct, entry, v
 use Rattle.wire_value.specs.Spelling.{zeros, gap, word, alignment, first_item, text_spelling, IsTextual, spell, spells, IsValue, AreValues, AreOf}
 use Rattle.wire_value.specs.Reading.{◌>>=◌, At, Read, basic_of, is_end, is_signature, is_single, basic_at, textual_at, fixed_at, leaf_at, bytes_at, gap_at, word_at, sign_at, items_at, body_at, array_at, fields_at, struct_at, entry_at, variant_at, value_at}
 use Rattle.wire_value.proofs.Steps.{IsBytes, bind_some, if_some_is, some_is, Takes, Takes-then, bytes_take, gap_takes, word_takes, fixed_takes, str_takes, path_takes, sign_takes, length-zeros, length-word}
-use Rattle.wire_value.proofs.TypeLaws.{type_again, text_len, basic_again, chosen, not_array, not_struct, not_brace, not_variant}
+use Rattle.wire_value.proofs.TypeLaws.{typed, type_again, text_len, basic_again, chosen, not_array, not_struct, not_brace, not_variant}
 use Rattle.wire_value.proofs.Signatures.{signature_is, single_is, take_front}
 use Rattle.wire_value.proofs.Again.{type_goes_on}
 
@@ -21,9 +21,6 @@ module _ (little : Bool) where
   -- what a reader of values of one nesting does at each type
   abbrev pub Finds : ℕ → (List ℕ → Read) → Type 0
   Finds d read = (k : Kind) (p : At) (x : Plain × At) → arrays k ≤ 32 → structs k ≤ 32 → IsBytes p.1 → read (text k) p ≡ Some x → Found d (text k) p x
-
-  abbrev typed : (k : Kind) → arrays k ≤ 32 → structs k ≤ 32 → IsType (text k)
-  typed k a b = record { kind = k; is = refl; arrays = a; structs = b }
 
   record FoundText (k : Textual) (p : At) (t : List ℕ × At) : Type 0 where
     pub takes : Takes p (text_spelling little p.0 k t.0) t.1

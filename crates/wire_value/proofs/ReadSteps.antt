@@ -1,7 +1,6 @@
 -- What the code that reads does at each letter, and at each turn of its loops.
-use Rattle.std.proofs.Common.{◌≡◌, ℕ, zero, suc, ◌-◌, ◌<◌, ◌≤◌, Bool, true, false, eqb, List, [], ◌∷◌, ◌++◌, length, take, drop, Option, Some, None, option_map, refl, sym, ap, subst, ◌∙◌, arith, inl, inr}
+use Rattle.std.proofs.Common.{◌≡◌, ℕ, zero, suc, ◌-◌, ◌<◌, ◌≤◌, Bool, true, false, List, [], ◌∷◌, ◌++◌, length, take, drop, Option, Some, None, option_map, refl, sym, ap, subst, ◌∙◌, arith, inl, inr}
 use Rattle.std.proofs.lemmas.Bool.{false≢true}
-use Rattle.std.proofs.lemmas.Bool.Decides.{nat_tests}
 use Rattle.std.proofs.lemmas.List.{length-append, take_at}
 use Rattle.wire_value.specs.Types.{letter, Kind, ty_basic, ty_variant, ty_array, ty_dict, ty_struct, text, arrays, structs, IsType, IsEntryType, IsItemType}
 use Rattle.wire_value.specs.Plain.{Plain, Plains, none, more}
@@ -11,7 +10,7 @@ use Rattle.wire_value.specs.Gives.{Fails}
 use Rattle.wire_value.specs.View.{onto}
 use Rattle.wire_value.specs.declared.error.ReadError.{ReadError}
 use Rattle.wire_value.specs.declared.error.ReadError.TheVariants as errors
-use Rattle.wire_value.proofs.Steps.{IsBytes}
+use Rattle.wire_value.proofs.Steps.{is_not, IsBytes}
 use Rattle.wire_value.proofs.TypeLaws.{text_len, not_array, not_brace}
 use Rattle.wire_value.proofs.Signatures.{long_is_not}
 use Rattle.wire_value.proofs.Again.{spell_len}
@@ -60,9 +59,6 @@ entry_len s h = omega (arith, ap length h.is, text_len h.value, length-append (t
 
 pub one_item : (s : List ℕ) → IsType s → IsItemType s
 one_item s h = inl h
-
-is_not : (n m : ℕ) → (n ≡ m → ⊥) → eqb n m ≡ false
-is_not n m h = grind (arith, nat_tests)
 
 module _ (little : Bool) where
   pub v_zero : (d : ℕ) (s : List ℕ) (p : At) → d ≡ 0 → value_at d little s p ≡ leaf_at little (head s) p

@@ -104,6 +104,9 @@ byte_again n b rest = rw (bytes_again 1 n (b ∷ []) rest refl) refl
 
 -- ---- zeros
 
+pub is_not : (n m : ℕ) → (n ≡ m → ⊥) → eqb n m ≡ false
+is_not n m h = grind (arith, nat_tests)
+
 pub suc_is_not : (b : ℕ) → eqb (suc b) 0 ≡ false
 suc_is_not b = grind (arith, nat_tests)
 

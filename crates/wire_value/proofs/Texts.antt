@@ -1,10 +1,10 @@
 -- What the code for texts does at each byte.
 use Rattle.std.proofs.Common.{◌≡◌, ℕ, Bool, true, false, cond, eqb, List, [], ◌∷◌, length, get_or, drop, Some, None, refl, arith, IsUtf8}
 use Rattle.std.specs.Str.{is_utf8}
-use Rattle.std.proofs.lemmas.Bool.Decides.{nat_tests}
 use Rattle.std.proofs.lemmas.Str.{is_utf8-from_IsUtf8, IsUtf8-from_is_utf8}
 use Rattle.wire_value.specs.Spelling.{are_parts, is_path}
 use Rattle.wire_value.specs.Reading.{as_text, as_string, is_string}
+use Rattle.wire_value.proofs.Steps.{is_not}
 
 pub utf8_yes : (bs : List ℕ) → IsUtf8 bs → as_text bs ≡ Some bs
 utf8_yes bs is = rw (is_utf8-from_IsUtf8 bs is) refl
@@ -15,9 +15,6 @@ not_true false h = refl
 
 pub utf8_no : (bs : List ℕ) → (IsUtf8 bs → ⊥) → as_text bs ≡ None
 utf8_no bs is = rw (not_true (is_utf8 bs) (λ e. is (IsUtf8-from_is_utf8 bs e))) refl
-
-is_not : (n m : ℕ) → (n ≡ m → ⊥) → eqb n m ≡ false
-is_not n m h = grind (arith, nat_tests)
 
 pub path_empty : (s : List ℕ) → length s ≡ 0 → is_path s ≡ false
 path_empty [] e = refl

@@ -2,7 +2,7 @@
 use Rattle.std.proofs.Common.{◌≡◌, ℕ, zero, suc, ◌+◌, ◌-◌, ◌<◌, ◌≤◌, Bool, true, false, ◌||◌, cond, eqb, List, [], ◌∷◌, ◌++◌, length, get_or, drop, Option, Some, None, refl, sym, ap, subst, ◌∙◌, append_assoc, arith, inl, inr, ◌⊎◌}
 use Rattle.std.proofs.lemmas.Bool.{or_cases, eqb-true}
 use Rattle.std.proofs.lemmas.List.{length-append}
-use Rattle.wire_value.specs.Types.{byte, boolean, int16, uint16, int32, uint32, int64, uint64, double, unix_fd, string, object_path, signature, Basic, fixed, textual, letter, Kind, Kinds, ty_basic, ty_variant, ty_array, ty_dict, ty_struct, no_kinds, and_kind, text, texts, arrays, structs, all_arrays, all_structs}
+use Rattle.wire_value.specs.Types.{byte, boolean, int16, uint16, int32, uint32, int64, uint64, double, unix_fd, string, object_path, signature, Basic, fixed, textual, letter, Kind, Kinds, ty_basic, ty_variant, ty_array, ty_dict, ty_struct, no_kinds, and_kind, text, texts, arrays, structs, all_arrays, all_structs, IsType}
 use Rattle.wire_value.specs.Reading.{◌>>=◌, if_some, with_letter, basics, basic_of, is_basic, types_until, closed, item_rest, type_at}
 use Rattle.wire_value.proofs.Steps.{bind_some, some_is, if_some_is, suc_is_not}
 
@@ -238,6 +238,9 @@ mutual
       rw (append_assoc (text k) (texts ks) (41 ∷ rest), until_more (type_at m a st) g k (texts ks ++ (41 ∷ rest)), first)
       (types_again ks m a st g rest (omega arith) (omega arith) h (omega (arith, text_len k, length-append (text k) (texts ks))))
 
+pub typed : (k : Kind) → arrays k ≤ 32 → structs k ≤ 32 → IsType (text k)
+typed k a b = record { kind = k; is = refl; arrays = a; structs = b }
+
 -- ---- what was read
 
 pub record TakesType (a st : ℕ) (s rest : List ℕ) : Type 0 where
@@ -262,7 +265,7 @@ leaf_takes a st c s rest h e =
           rw (b.1, same) (record { kind = ty_basic b.0; is = refl; arrays = omega arith; structs = omega arith })
     ]
 
-headed : (s rest : List ℕ) (c : ℕ) → get_or s 0 0 ≡ c → drop 1 s ≡ rest → 0 < c → s ≡ c ∷ rest
+pub headed : (s rest : List ℕ) (c : ℕ) → get_or s 0 0 ≡ c → drop 1 s ≡ rest → 0 < c → s ≡ c ∷ rest
 headed [] rest c e f h = absurd (omega arith)
 headed (x ∷ s) rest c e f h = cc
 

@@ -1,11 +1,8 @@
 -- What the code for types does at each letter.
 use Rattle.std.proofs.Common.{◌≡◌, ℕ, zero, suc, ◌+◌, ◌-◌, ◌<◌, ◌≤◌, true, false, ◌||◌, eqb, List, [], length, drop, Option, Some, None, refl, sym, ap, ◌∙◌, arith}
-use Rattle.std.proofs.lemmas.Bool.Decides.{nat_tests}
 use Rattle.std.proofs.lemmas.List.{nil_from_length}
 use Rattle.wire_value.specs.Reading.{◌>>=◌, is_basic, basic_of, head, closed, item_rest, types_until, type_at, one_type, are_types}
-
-is_not : (n m : ℕ) → (n ≡ m → ⊥) → eqb n m ≡ false
-is_not n m h = grind (arith, nat_tests)
+use Rattle.wire_value.proofs.Steps.{is_not}
 
 at_leaf : (m a st : ℕ) (s : List ℕ) → (is_basic (head s) || eqb (head s) 118) ≡ true → type_at m a st s ≡ Some (drop 1 s)
 unfolding type_at

@@ -14,18 +14,18 @@ use crate::value::Value;
 use std::alloc::Global;
 use updater_text::Text;
 
-fn byte_value<'a>(little: bool, p: Place<'a>) -> Result<(Value, Place<'a>), ReadError>
-    ensures { GivesValue result (basic_at little (fixed byte) (at p.entry)) }
+fn byte_value<'a>(little: bool, place: Place<'a>) -> Result<(Value, Place<'a>), ReadError>
+    ensures { GivesValue result (basic_at little (fixed byte) (at place.entry)) }
 {
-    let (number, rest) = u8_of(little, p)?;
+    let (number, rest) = u8_of(little, place)?;
     Ok((Value::Byte(number), rest))
 }
 
 #[tactic(auto, using(crate::proofs::Numbers::bit_back))]
-fn flag_value<'a>(little: bool, p: Place<'a>) -> Result<(Value, Place<'a>), ReadError>
-    ensures { GivesValue result (basic_at little (fixed boolean) (at p.entry)) }
+fn flag_value<'a>(little: bool, place: Place<'a>) -> Result<(Value, Place<'a>), ReadError>
+    ensures { GivesValue result (basic_at little (fixed boolean) (at place.entry)) }
 {
-    let (number, rest) = u32_of(little, p)?;
+    let (number, rest) = u32_of(little, place)?;
     if number > 1 {
         return Err(ReadError::Malformed);
     }
@@ -33,82 +33,86 @@ fn flag_value<'a>(little: bool, p: Place<'a>) -> Result<(Value, Place<'a>), Read
 }
 
 #[tactic(auto, using(crate::proofs::Numbers::back_16))]
-fn i16_value<'a>(little: bool, p: Place<'a>) -> Result<(Value, Place<'a>), ReadError>
-    ensures { GivesValue result (basic_at little (fixed int16) (at p.entry)) }
+fn i16_value<'a>(little: bool, place: Place<'a>) -> Result<(Value, Place<'a>), ReadError>
+    ensures { GivesValue result (basic_at little (fixed int16) (at place.entry)) }
 {
-    let (number, rest) = u16_of(little, p)?;
+    let (number, rest) = u16_of(little, place)?;
     Ok((Value::I16(number.cast_signed()), rest))
 }
 
-fn u16_value<'a>(little: bool, p: Place<'a>) -> Result<(Value, Place<'a>), ReadError>
-    ensures { GivesValue result (basic_at little (fixed uint16) (at p.entry)) }
+fn u16_value<'a>(little: bool, place: Place<'a>) -> Result<(Value, Place<'a>), ReadError>
+    ensures { GivesValue result (basic_at little (fixed uint16) (at place.entry)) }
 {
-    let (number, rest) = u16_of(little, p)?;
+    let (number, rest) = u16_of(little, place)?;
     Ok((Value::U16(number), rest))
 }
 
 #[tactic(auto, using(crate::proofs::Numbers::back_32))]
-fn i32_value<'a>(little: bool, p: Place<'a>) -> Result<(Value, Place<'a>), ReadError>
-    ensures { GivesValue result (basic_at little (fixed int32) (at p.entry)) }
+fn i32_value<'a>(little: bool, place: Place<'a>) -> Result<(Value, Place<'a>), ReadError>
+    ensures { GivesValue result (basic_at little (fixed int32) (at place.entry)) }
 {
-    let (number, rest) = u32_of(little, p)?;
+    let (number, rest) = u32_of(little, place)?;
     Ok((Value::I32(number.cast_signed()), rest))
 }
 
-fn u32_value<'a>(little: bool, p: Place<'a>) -> Result<(Value, Place<'a>), ReadError>
-    ensures { GivesValue result (basic_at little (fixed uint32) (at p.entry)) }
+fn u32_value<'a>(little: bool, place: Place<'a>) -> Result<(Value, Place<'a>), ReadError>
+    ensures { GivesValue result (basic_at little (fixed uint32) (at place.entry)) }
 {
-    let (number, rest) = u32_of(little, p)?;
+    let (number, rest) = u32_of(little, place)?;
     Ok((Value::U32(number), rest))
 }
 
 #[tactic(auto, using(crate::proofs::Numbers::back_64))]
-fn i64_value<'a>(little: bool, p: Place<'a>) -> Result<(Value, Place<'a>), ReadError>
-    ensures { GivesValue result (basic_at little (fixed int64) (at p.entry)) }
+fn i64_value<'a>(little: bool, place: Place<'a>) -> Result<(Value, Place<'a>), ReadError>
+    ensures { GivesValue result (basic_at little (fixed int64) (at place.entry)) }
 {
-    let (number, rest) = u64_of(little, p)?;
+    let (number, rest) = u64_of(little, place)?;
     Ok((Value::I64(number.cast_signed()), rest))
 }
 
-fn u64_value<'a>(little: bool, p: Place<'a>) -> Result<(Value, Place<'a>), ReadError>
-    ensures { GivesValue result (basic_at little (fixed uint64) (at p.entry)) }
+fn u64_value<'a>(little: bool, place: Place<'a>) -> Result<(Value, Place<'a>), ReadError>
+    ensures { GivesValue result (basic_at little (fixed uint64) (at place.entry)) }
 {
-    let (number, rest) = u64_of(little, p)?;
+    let (number, rest) = u64_of(little, place)?;
     Ok((Value::U64(number), rest))
 }
 
 #[tactic(auto, using(crate::proofs::Numbers::double_back))]
-fn double_value<'a>(little: bool, p: Place<'a>) -> Result<(Value, Place<'a>), ReadError>
-    ensures { GivesValue result (basic_at little (fixed double) (at p.entry)) }
+fn double_value<'a>(little: bool, place: Place<'a>) -> Result<(Value, Place<'a>), ReadError>
+    ensures { GivesValue result (basic_at little (fixed double) (at place.entry)) }
 {
-    let (number, rest) = u64_of(little, p)?;
+    let (number, rest) = u64_of(little, place)?;
     Ok((Value::Double(number.to_le_bytes()), rest))
 }
 
-fn fd_value<'a>(little: bool, p: Place<'a>) -> Result<(Value, Place<'a>), ReadError>
-    ensures { GivesValue result (basic_at little (fixed unix_fd) (at p.entry)) }
+fn fd_value<'a>(little: bool, place: Place<'a>) -> Result<(Value, Place<'a>), ReadError>
+    ensures { GivesValue result (basic_at little (fixed unix_fd) (at place.entry)) }
 {
-    let (number, rest) = u32_of(little, p)?;
+    let (number, rest) = u32_of(little, place)?;
     Ok((Value::Fd(number), rest))
 }
 
 // A number of a type, by the letter of the type.
 #[tactic(auto, unfolding(crate::specs::Reading::leaf_at, crate::specs::Reading::basic_of))]
-fn number_value<'a>(little: bool, letter: u8, p: Place<'a>) -> Result<(Value, Place<'a>), ReadError>
+fn number_value<'a>(
+    little: bool,
+    letter: u8,
+    place: Place<'a>,
+) -> Result<(Value, Place<'a>), ReadError>
     requires no_text { (letter ≢ 115) × (letter ≢ 111) × (letter ≢ 103) }
-    ensures { GivesValue result (leaf_at little letter (at p.entry)) }
+    ensures { GivesValue result (leaf_at little letter (at place.entry)) }
 {
     match letter {
-        b'y' => byte_value(little, p),
-        b'b' => flag_value(little, p),
-        b'n' => i16_value(little, p),
-        b'q' => u16_value(little, p),
-        b'i' => i32_value(little, p),
-        b'u' => u32_value(little, p),
-        b'x' => i64_value(little, p),
-        b't' => u64_value(little, p),
-        b'd' => double_value(little, p),
-        b'h' => fd_value(little, p),
+        b'y' => byte_value(little, place),
+        b'b' => flag_value(little, place),
+        b'n' => i16_value(little, place),
+        b'q' => u16_value(little, place),
+        b'i' => i32_value(little, place),
+        b'u' => u32_value(little, place),
+        b'x' => i64_value(little, place),
+        b't' => u64_value(little, place),
+        b'd' => double_value(little, place),
+        b'h' => fd_value(little, place),
         _ => Err(ReadError::Malformed),
     }
 }
@@ -116,11 +120,11 @@ fn number_value<'a>(little: bool, letter: u8, p: Place<'a>) -> Result<(Value, Pl
 fn string_value<'a>(
     alloc: Global,
     little: bool,
-    p: Place<'a>,
+    place: Place<'a>,
 ) -> Result<(Value, Place<'a>), ReadError>
-    ensures { GivesValue result (basic_at little (textual string) (at p.entry)) }
+    ensures { GivesValue result (basic_at little (textual string) (at place.entry)) }
 {
-    let (text, rest) = str_of(little, p)?;
+    let (text, rest) = str_of(little, place)?;
     let text = Text::new(alloc, text)?;
     Ok((Value::Str(text), rest))
 }
@@ -128,11 +132,11 @@ fn string_value<'a>(
 fn path_value<'a>(
     alloc: Global,
     little: bool,
-    p: Place<'a>,
+    place: Place<'a>,
 ) -> Result<(Value, Place<'a>), ReadError>
-    ensures { GivesValue result (basic_at little (textual object_path) (at p.entry)) }
+    ensures { GivesValue result (basic_at little (textual object_path) (at place.entry)) }
 {
-    let (text, rest) = path_of(little, p)?;
+    let (text, rest) = path_of(little, place)?;
     let text = Text::new(alloc, text)?;
     Ok((Value::Path(text), rest))
 }
@@ -141,11 +145,11 @@ fn path_value<'a>(
 fn signature_value<'a>(
     alloc: Global,
     little: bool,
-    p: Place<'a>,
+    place: Place<'a>,
 ) -> Result<(Value, Place<'a>), ReadError>
-    ensures { GivesValue result (basic_at little (textual signature) (at p.entry)) }
+    ensures { GivesValue result (basic_at little (textual signature) (at place.entry)) }
 {
-    let (bytes, rest) = sign_of(p)?;
+    let (bytes, rest) = sign_of(place)?;
     if !is_signature(bytes) {
         return Err(ReadError::Malformed);
     }
@@ -162,14 +166,14 @@ pub fn leaf_of<'a>(
     alloc: Global,
     little: bool,
     letter: u8,
-    p: Place<'a>,
+    place: Place<'a>,
 ) -> Result<(Value, Place<'a>), ReadError>
-    ensures { GivesValue result (leaf_at little letter (at p.entry)) }
+    ensures { GivesValue result (leaf_at little letter (at place.entry)) }
 {
     match letter {
-        b's' => string_value(alloc, little, p),
-        b'o' => path_value(alloc, little, p),
-        b'g' => signature_value(alloc, little, p),
-        _ => number_value(little, letter, p),
+        b's' => string_value(alloc, little, place),
+        b'o' => path_value(alloc, little, place),
+        b'g' => signature_value(alloc, little, place),
+        _ => number_value(little, letter, place),
     }
 }

@@ -12,31 +12,33 @@ use crate::types::first_letter;
 use byteorder::{BigEndian, ByteOrder, LittleEndian};
 use std::str;
 
+/// The next `count` bytes, and the place behind them. Malformed where fewer are left.
 #[tactic(auto, unfolding(crate::specs::Reading::bytes_at))]
-pub fn bytes_of<'a>(p: Place<'a>, count: usize) -> Result<(&'a [u8], Place<'a>), ReadError>
-    ensures gives { Gives (λ x. (x.0.now, at x.1)) result (bytes_at count (at p.entry)) }
+pub fn bytes_of<'a>(place: Place<'a>, count: usize) -> Result<(&'a [u8], Place<'a>), ReadError>
+    ensures gives { Gives (λ x. (x.0.now, at x.1)) result (bytes_at count (at place.entry)) }
     ensures length { IfOk result (λ x. length x.0.now ≡ count) }
-    ensures inside { IfOk result (λ x. p.entry.offset + length x.0.now ≤ 2 ^ 32) }
+    ensures inside { IfOk result (λ x. place.entry.offset + length x.0.now ≤ 2 ^ 32) }
     ensures small { IfOk result (λ x. (i : ℕ) → slice_index x.0.now i < 256) }
 {
-    if p.bytes.len() < count {
+    if place.bytes.len() < count {
         return Err(ReadError::Malformed);
     }
-    let (front, rest) = p.bytes.split_at(count);
+    let (front, rest) = place.bytes.split_at(count);
     Ok((
         front,
         Place {
-            offset: p.offset + count,
+            offset: place.offset + count,
             bytes: rest,
         },
     ))
 }
 
+/// The next byte, and the place behind it. Malformed where none is left.
 #[tactic(auto, unfolding(crate::specs::Reading::byte_at))]
-pub fn byte_of<'a>(p: Place<'a>) -> Result<(u8, Place<'a>), ReadError>
-    ensures { Gives (λ x. (x.0, at x.1)) result (byte_at (at p.entry)) }
+pub fn byte_of<'a>(place: Place<'a>) -> Result<(u8, Place<'a>), ReadError>
+    ensures { Gives (λ x. (x.0, at x.1)) result (byte_at (at place.entry)) }
 {
-    let (front, rest) = bytes_of(p, 1)?;
+    let (front, rest) = bytes_of(place, 1)?;
     Ok((front[0], rest))
 }
 
@@ -51,6 +53,7 @@ fn are_zeros(bytes: &[u8]) -> bool
     true
 }
 
+/// How many bytes of padding lie between an offset and the next multiple of an alignment.
 #[tactic(auto, unfolding(crate::specs::Spelling::gap))]
 pub fn gap_before(alignment: usize, offset: usize) -> usize
     requires some { 0 < alignment }
@@ -61,7 +64,7 @@ pub fn gap_before(alignment: usize, offset: usize) -> usize
     (alignment - offset % alignment) % alignment
 }
 
-/// The alignment of a type.
+/// The alignment of a type, by its first letter.
 #[tactic(auto, unfolding(crate::specs::Spelling::alignment))]
 pub fn alignment(kind: &[u8]) -> usize
     ensures is { result ≡ alignment kind.now }
@@ -76,13 +79,14 @@ pub fn alignment(kind: &[u8]) -> usize
     }
 }
 
+/// The place behind the padding before an alignment. Malformed where it is cut or not zero.
 #[tactic(auto, unfolding(crate::specs::Reading::gap_at))]
-pub fn gap_of<'a>(alignment: usize, p: Place<'a>) -> Result<Place<'a>, ReadError>
+pub fn gap_of<'a>(alignment: usize, place: Place<'a>) -> Result<Place<'a>, ReadError>
     requires some { 0 < alignment }
     requires small { alignment ≤ 8 }
-    ensures { Gives at result (gap_at alignment (at p.entry)) }
+    ensures { Gives at result (gap_at alignment (at place.entry)) }
 {
-    let (zeros, rest) = bytes_of(p, gap_before(alignment, p.offset))?;
+    let (zeros, rest) = bytes_of(place, gap_before(alignment, place.offset))?;
     if are_zeros(zeros) {
         Ok(rest)
     } else {
@@ -90,11 +94,12 @@ pub fn gap_of<'a>(alignment: usize, p: Place<'a>) -> Result<Place<'a>, ReadError
     }
 }
 
+/// The number of one byte at a place, as the other numbers: Malformed where it is cut.
 #[tactic(auto, using(crate::proofs::Steps::from_byte), unfolding(crate::specs::Reading::word_at))]
-pub fn u8_of<'a>(little: bool, p: Place<'a>) -> Result<(u8, Place<'a>), ReadError>
-    ensures { Gives (λ x. (x.0, at x.1)) result (word_at little 1 (at p.entry)) }
+pub fn u8_of<'a>(little: bool, place: Place<'a>) -> Result<(u8, Place<'a>), ReadError>
+    ensures { Gives (λ x. (x.0, at x.1)) result (word_at little 1 (at place.entry)) }
 {
-    let rest = gap_of(1, p)?;
+    let rest = gap_of(1, place)?;
     let (front, rest) = bytes_of(rest, 1)?;
     Ok((front[0], rest))
 }
@@ -111,11 +116,13 @@ fn number_16(little: bool, bytes: &[u8]) -> u16
     }
 }
 
+/// The number of two bytes at a place, behind its padding, lowest byte first where `little`.
+/// Malformed where it is cut or its padding is not zero.
 #[tactic(auto, unfolding(crate::specs::Reading::word_at))]
-pub fn u16_of<'a>(little: bool, p: Place<'a>) -> Result<(u16, Place<'a>), ReadError>
-    ensures { Gives (λ x. (x.0, at x.1)) result (word_at little 2 (at p.entry)) }
+pub fn u16_of<'a>(little: bool, place: Place<'a>) -> Result<(u16, Place<'a>), ReadError>
+    ensures { Gives (λ x. (x.0, at x.1)) result (word_at little 2 (at place.entry)) }
 {
-    let rest = gap_of(2, p)?;
+    let rest = gap_of(2, place)?;
     let (front, rest) = bytes_of(rest, 2)?;
     Ok((number_16(little, front), rest))
 }
@@ -132,11 +139,12 @@ fn number_32(little: bool, bytes: &[u8]) -> u32
     }
 }
 
+/// The same of four bytes.
 #[tactic(auto, unfolding(crate::specs::Reading::word_at))]
-pub fn u32_of<'a>(little: bool, p: Place<'a>) -> Result<(u32, Place<'a>), ReadError>
-    ensures { Gives (λ x. (x.0, at x.1)) result (word_at little 4 (at p.entry)) }
+pub fn u32_of<'a>(little: bool, place: Place<'a>) -> Result<(u32, Place<'a>), ReadError>
+    ensures { Gives (λ x. (x.0, at x.1)) result (word_at little 4 (at place.entry)) }
 {
-    let rest = gap_of(4, p)?;
+    let rest = gap_of(4, place)?;
     let (front, rest) = bytes_of(rest, 4)?;
     Ok((number_32(little, front), rest))
 }
@@ -153,20 +161,21 @@ fn number_64(little: bool, bytes: &[u8]) -> u64
     }
 }
 
+/// The same of eight bytes.
 #[tactic(auto, unfolding(crate::specs::Reading::word_at))]
-pub fn u64_of<'a>(little: bool, p: Place<'a>) -> Result<(u64, Place<'a>), ReadError>
-    ensures { Gives (λ x. (x.0, at x.1)) result (word_at little 8 (at p.entry)) }
+pub fn u64_of<'a>(little: bool, place: Place<'a>) -> Result<(u64, Place<'a>), ReadError>
+    ensures { Gives (λ x. (x.0, at x.1)) result (word_at little 8 (at place.entry)) }
 {
-    let rest = gap_of(8, p)?;
+    let rest = gap_of(8, place)?;
     let (front, rest) = bytes_of(rest, 8)?;
     Ok((number_64(little, front), rest))
 }
 
 #[tactic(auto, unfolding(crate::specs::Reading::ended_at))]
-fn ended_of<'a>(p: Place<'a>, count: usize) -> Result<(&'a [u8], Place<'a>), ReadError>
-    ensures { Gives (λ x. (x.0.now, at x.1)) result (ended_at count (at p.entry)) }
+fn ended_of<'a>(place: Place<'a>, count: usize) -> Result<(&'a [u8], Place<'a>), ReadError>
+    ensures { Gives (λ x. (x.0.now, at x.1)) result (ended_at count (at place.entry)) }
 {
-    let (text, rest) = bytes_of(p, count)?;
+    let (text, rest) = bytes_of(place, count)?;
     let (end, rest) = byte_of(rest)?;
     if end == 0 {
         Ok((text, rest))
@@ -186,7 +195,7 @@ fn has_no_nul(bytes: &[u8]) -> bool
     true
 }
 
-// The bytes as a text, where they are UTF-8.
+/// The bytes as a text, where they are UTF-8.
 #[tactic(auto, using(crate::proofs::Texts::utf8_yes, crate::proofs::Texts::utf8_no))]
 pub fn text_of(bytes: &[u8]) -> Option<&str>
     ensures { option_map (λ s. s.now) result ≡ as_text bytes.now }
@@ -197,7 +206,7 @@ pub fn text_of(bytes: &[u8]) -> Option<&str>
     }
 }
 
-// The bytes as a string, where they are UTF-8 without NUL.
+/// The bytes as a text, where they are UTF-8 without NUL.
 pub fn string_of(bytes: &[u8]) -> Option<&str>
     ensures { option_map (λ s. s.now) result ≡ as_string bytes.now }
 {
@@ -207,11 +216,13 @@ pub fn string_of(bytes: &[u8]) -> Option<&str>
     text_of(bytes)
 }
 
+/// The string at a place: its length in four bytes, UTF-8 without NUL, and a NUL. Malformed where
+/// none stands there.
 #[tactic(auto, using(crate::proofs::Texts::string_yes, crate::proofs::Texts::string_same, crate::proofs::Texts::string_no), unfolding(crate::specs::Reading::str_at))]
-pub fn str_of<'a>(little: bool, p: Place<'a>) -> Result<(&'a str, Place<'a>), ReadError>
-    ensures { Gives (λ x. (x.0.now, at x.1)) result (str_at little (at p.entry)) }
+pub fn str_of<'a>(little: bool, place: Place<'a>) -> Result<(&'a str, Place<'a>), ReadError>
+    ensures { Gives (λ x. (x.0.now, at x.1)) result (str_at little (at place.entry)) }
 {
-    let (length, rest) = u32_of(little, p)?;
+    let (length, rest) = u32_of(little, place)?;
     let (bytes, rest) = ended_of(rest, length as usize)?;
     match string_of(bytes) {
         Some(text) => Ok((text, rest)),
@@ -263,11 +274,12 @@ pub fn is_path(bytes: &[u8]) -> bool
     are_parts(bytes.split_at(1).1)
 }
 
+/// The object path at a place. Malformed where none stands there.
 #[tactic(auto, unfolding(crate::specs::Reading::path_at))]
-pub fn path_of<'a>(little: bool, p: Place<'a>) -> Result<(&'a str, Place<'a>), ReadError>
-    ensures { Gives (λ x. (x.0.now, at x.1)) result (path_at little (at p.entry)) }
+pub fn path_of<'a>(little: bool, place: Place<'a>) -> Result<(&'a str, Place<'a>), ReadError>
+    ensures { Gives (λ x. (x.0.now, at x.1)) result (path_at little (at place.entry)) }
 {
-    let (text, rest) = str_of(little, p)?;
+    let (text, rest) = str_of(little, place)?;
     if is_path(text.as_bytes()) {
         Ok((text, rest))
     } else {
@@ -275,10 +287,12 @@ pub fn path_of<'a>(little: bool, p: Place<'a>) -> Result<(&'a str, Place<'a>), R
     }
 }
 
+/// A signature's bytes at a place: their length in one byte, the bytes and a NUL. Malformed where
+/// they are cut; whether they are a signature is not looked at.
 #[tactic(auto, unfolding(crate::specs::Reading::sign_at))]
-pub fn sign_of<'a>(p: Place<'a>) -> Result<(&'a [u8], Place<'a>), ReadError>
-    ensures { Gives (λ x. (x.0.now, at x.1)) result (sign_at (at p.entry)) }
+pub fn sign_of<'a>(place: Place<'a>) -> Result<(&'a [u8], Place<'a>), ReadError>
+    ensures { Gives (λ x. (x.0.now, at x.1)) result (sign_at (at place.entry)) }
 {
-    let (length, rest) = byte_of(p)?;
+    let (length, rest) = byte_of(place)?;
     ended_of(rest, usize::from(length))
 }

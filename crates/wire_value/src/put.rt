@@ -9,6 +9,8 @@ use crate::parts::gap_before;
 use byteorder::{BigEndian, ByteOrder, LittleEndian};
 use std::alloc::AllocError;
 
+/// Adds zeros up to the next multiple of an alignment. Out of memory, a part may have been added,
+/// as by each call here.
 #[tactic(auto, using(crate::proofs::Growing::zeros_more))]
 pub fn put_gap(out: &mut Vec<u8>, alignment: usize) -> Result<(), AllocError>
     requires some { 0 < alignment }
@@ -29,6 +31,7 @@ fn put_bare_8(out: &mut Vec<u8>, little: bool, number: u8) -> Result<(), AllocEr
     Ok(())
 }
 
+/// Adds a number of one byte.
 pub fn put_u8(out: &mut Vec<u8>, little: bool, number: u8) -> Result<(), AllocError>
     ensures { Adds result out.old.items out.new.items (padded little 1 number) }
 {
@@ -51,6 +54,7 @@ fn put_bare_16(out: &mut Vec<u8>, little: bool, number: u16) -> Result<(), Alloc
     Ok(())
 }
 
+/// Adds a number of two bytes behind its padding, lowest byte first where `little`.
 pub fn put_u16(out: &mut Vec<u8>, little: bool, number: u16) -> Result<(), AllocError>
     ensures { Adds result out.old.items out.new.items (padded little 2 number) }
 {
@@ -73,6 +77,7 @@ fn put_bare_32(out: &mut Vec<u8>, little: bool, number: u32) -> Result<(), Alloc
     Ok(())
 }
 
+/// The same of four bytes.
 pub fn put_u32(out: &mut Vec<u8>, little: bool, number: u32) -> Result<(), AllocError>
     ensures { Adds result out.old.items out.new.items (padded little 4 number) }
 {
@@ -95,6 +100,7 @@ fn put_bare_64(out: &mut Vec<u8>, little: bool, number: u64) -> Result<(), Alloc
     Ok(())
 }
 
+/// The same of eight bytes.
 pub fn put_u64(out: &mut Vec<u8>, little: bool, number: u64) -> Result<(), AllocError>
     ensures { Adds result out.old.items out.new.items (padded little 8 number) }
 {
@@ -102,7 +108,7 @@ pub fn put_u64(out: &mut Vec<u8>, little: bool, number: u64) -> Result<(), Alloc
     put_bare_64(out, little, number)
 }
 
-// Adds a string or an object path: its length, its bytes and a NUL.
+/// Adds a string or an object path: its length, its bytes and a NUL.
 #[tactic(auto, using(std::proofs::lemmas::List::append_assoc))]
 pub fn put_text(out: &mut Vec<u8>, little: bool, text: &[u8]) -> Result<(), AllocError>
     requires { length text.now < 2 ^ 32 }
@@ -114,7 +120,7 @@ pub fn put_text(out: &mut Vec<u8>, little: bool, text: &[u8]) -> Result<(), Allo
     Ok(())
 }
 
-// Adds a signature: its length in one byte, its bytes and a NUL.
+/// Adds a signature: its length in one byte, its bytes and a NUL.
 #[tactic(auto, using(std::proofs::lemmas::List::append_assoc))]
 pub fn put_signature(out: &mut Vec<u8>, text: &[u8]) -> Result<(), AllocError>
     requires { length text.now ≤ 255 }

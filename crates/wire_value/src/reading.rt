@@ -18,10 +18,14 @@ use updater_text::Text;
 
 // The bytes of an array's items, and what stands behind them.
 #[tactic(auto, unfolding(crate::specs::Reading::body_at))]
-fn body_of<'a>(little: bool, item: &[u8], p: Place<'a>) -> Result<(Place<'a>, Place<'a>), ReadError>
-    ensures { Gives (λ x. (at x.0, at x.1)) result (body_at little item.now (at p.entry)) }
+fn body_of<'a>(
+    little: bool,
+    item: &[u8],
+    place: Place<'a>,
+) -> Result<(Place<'a>, Place<'a>), ReadError>
+    ensures { Gives (λ x. (at x.0, at x.1)) result (body_at little item.now (at place.entry)) }
 {
-    let (length, rest) = u32_of(little, p)?;
+    let (length, rest) = u32_of(little, place)?;
     let rest = gap_of(alignment(item), rest)?;
     let (front, after) = bytes_of(rest, length as usize)?;
     if length > 67_108_864 {
@@ -42,29 +46,29 @@ pub fn value_of<'a>(
     little: bool,
     depth: usize,
     kind: &[u8],
-    p: Place<'a>,
+    place: Place<'a>,
 ) -> Result<(Value, Place<'a>), ReadError>
     requires small { depth ≤ 64 }
     requires kind { IsItemType kind.now }
-    ensures { GivesValue result (value_at depth little kind.now (at p.entry)) }
+    ensures { GivesValue result (value_at depth little kind.now (at place.entry)) }
 {
     let letter = first_letter(kind);
     if depth == 0 {
-        return leaf_of(alloc, little, letter, p);
+        return leaf_of(alloc, little, letter, place);
     }
     if letter == b'a' {
-        return array_of(alloc, little, depth - 1, behind_letter(kind), p);
+        return array_of(alloc, little, depth - 1, behind_letter(kind), place);
     }
     if letter == b'(' {
-        return struct_of(alloc, little, depth - 1, behind_letter(kind), p);
+        return struct_of(alloc, little, depth - 1, behind_letter(kind), place);
     }
     if letter == b'{' {
-        return entry_of(alloc, little, depth - 1, behind_letter(kind), p);
+        return entry_of(alloc, little, depth - 1, behind_letter(kind), place);
     }
     if letter == b'v' {
-        return variant_of(alloc, little, depth - 1, p);
+        return variant_of(alloc, little, depth - 1, place);
     }
-    leaf_of(alloc, little, letter, p)
+    leaf_of(alloc, little, letter, place)
 }
 
 #[cycle(read)]
@@ -74,13 +78,13 @@ fn array_of<'a>(
     little: bool,
     depth: usize,
     item: &[u8],
-    p: Place<'a>,
+    place: Place<'a>,
 ) -> Result<(Value, Place<'a>), ReadError>
     requires small { depth ≤ 64 }
     requires kind { IsItemType item.now }
-    ensures { GivesValue result (array_value_at depth little item.now (at p.entry)) }
+    ensures { GivesValue result (array_value_at depth little item.now (at place.entry)) }
 {
-    let (inside, after) = body_of(little, item, p)?;
+    let (inside, after) = body_of(little, item, place)?;
     let items = items_of(alloc, little, depth, item, inside)?;
     let Some(text) = text_of(item) else {
         return Err(ReadError::Malformed);
@@ -95,14 +99,14 @@ pub fn items_of<'a>(
     little: bool,
     depth: usize,
     item: &[u8],
-    p: Place<'a>,
+    place: Place<'a>,
 ) -> Result<Vec<Value>, ReadError>
     requires small { depth ≤ 64 }
     requires kind { IsItemType item.now }
-    ensures { GivesItems result (all_items_at depth little item.now (at p.entry)) }
+    ensures { GivesItems result (all_items_at depth little item.now (at place.entry)) }
 {
     let mut found = Vec::new(alloc);
-    let mut rest = p;
+    let mut rest = place;
     'items: while !rest.bytes.is_empty() {
         let (value, after) = value_of(alloc, little, depth, item, rest)?;
         found.push(value)?;
@@ -118,12 +122,12 @@ fn struct_of<'a>(
     little: bool,
     depth: usize,
     types: &[u8],
-    p: Place<'a>,
+    place: Place<'a>,
 ) -> Result<(Value, Place<'a>), ReadError>
     requires small { depth ≤ 64 }
-    ensures { GivesValue result (struct_at (value_at depth little) types.now (at p.entry)) }
+    ensures { GivesValue result (struct_at (value_at depth little) types.now (at place.entry)) }
 {
-    let rest = gap_of(8, p)?;
+    let rest = gap_of(8, place)?;
     let (fields, rest) = fields_of(alloc, little, depth, types, rest)?;
     Ok((Value::Struct(fields), rest))
 }
@@ -134,14 +138,14 @@ pub fn fields_of<'a>(
     little: bool,
     depth: usize,
     types: &[u8],
-    p: Place<'a>,
+    place: Place<'a>,
 ) -> Result<(Vec<Value>, Place<'a>), ReadError>
     requires small { depth ≤ 64 }
-    ensures { GivesValues result (values_at depth little types.now (at p.entry)) }
+    ensures { GivesValues result (values_at depth little types.now (at place.entry)) }
 {
     let mut found = Vec::new(alloc);
     let mut types = types;
-    let mut rest = p;
+    let mut rest = place;
     'fields: while !is_end(types) {
         let Some((kind, others)) = first_type(types) else {
             return Err(ReadError::Malformed);
@@ -161,15 +165,15 @@ fn entry_of<'a>(
     little: bool,
     depth: usize,
     types: &[u8],
-    p: Place<'a>,
+    place: Place<'a>,
 ) -> Result<(Value, Place<'a>), ReadError>
     requires small { depth ≤ 64 }
     requires types { IsEntryType (123 ∷ types.now) }
-    ensures { GivesValue result (entry_at (value_at depth little) types.now (at p.entry)) }
+    ensures { GivesValue result (entry_at (value_at depth little) types.now (at place.entry)) }
 {
     let (key_type, others) = types.split_at(1);
     let value_type = others.split_at(types.len() - 2).0;
-    let rest = gap_of(8, p)?;
+    let rest = gap_of(8, place)?;
     let (key, rest) = value_of(alloc, little, depth, key_type, rest)?;
     let key = Box::new(alloc, key)?;
     let (value, rest) = value_of(alloc, little, depth, value_type, rest)?;
@@ -183,12 +187,12 @@ fn variant_of<'a>(
     alloc: Global,
     little: bool,
     depth: usize,
-    p: Place<'a>,
+    place: Place<'a>,
 ) -> Result<(Value, Place<'a>), ReadError>
     requires small { depth ≤ 64 }
-    ensures { GivesValue result (variant_at (value_at depth little) (at p.entry)) }
+    ensures { GivesValue result (variant_at (value_at depth little) (at place.entry)) }
 {
-    let (kind, rest) = sign_of(p)?;
+    let (kind, rest) = sign_of(place)?;
     if !is_single(kind) {
         return Err(ReadError::Malformed);
     }

@@ -30,7 +30,7 @@ decreases-variant_of l = 3 * l.depth + 2
 abbrev pub invariant-items_of-items : goal.invariant-items_of-items
 invariant-items_of-items l =
     (g : ℕ) × (length l.rest.bytes.now ≤ g)
-    × (option_map (onto (map view l.found.items)) (items_at (value_at l.depth l.little l.item) g (at l.rest)) ≡ items_at (value_at l.depth l.little l.item) (length l.p.bytes.now) (at l.p))
+    × (option_map (onto (map view l.found.items)) (items_at (value_at l.depth l.little l.item) g (at l.rest)) ≡ items_at (value_at l.depth l.little l.item) (length l.place.bytes.now) (at l.place))
 
 abbrev pub decreases-items_of-items : goal.decreases-items_of-items
 decreases-items_of-items l = length l.rest.bytes.now
@@ -38,7 +38,7 @@ decreases-items_of-items l = length l.rest.bytes.now
 abbrev pub invariant-fields_of-fields : goal.invariant-fields_of-fields
 invariant-fields_of-fields l =
     (g : ℕ) × (length l.types < g)
-    × (option_map (λ (x : Plains × At). (onto (map view l.found.items) x.0, x.1)) (fields_at (value_at l.depth l.little) g l.types (at l.rest)) ≡ fields_at (value_at l.depth l.little) (suc (length l.fn.types)) l.fn.types (at l.p))
+    × (option_map (λ (x : Plains × At). (onto (map view l.found.items) x.0, x.1)) (fields_at (value_at l.depth l.little) g l.types (at l.rest)) ≡ fields_at (value_at l.depth l.little) (suc (length l.fn.types)) l.fn.types (at l.place))
 
 abbrev pub decreases-fields_of-fields : goal.decreases-fields_of-fields
 decreases-fields_of-fields l = length l.types
