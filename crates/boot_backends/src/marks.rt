@@ -3,6 +3,7 @@ ghost use Rattle.boot_commands.specs.declared.command.Mark.TheVariants.{Bad, Goo
 ghost use Rattle.boot_commands.specs.Plans.{HasDigits};
 ghost use Rattle.machine.specs.Past.{Fails};
 ghost use Rattle.machine.specs.Stops.{StopCounted, stop_fault};
+ghost use Rattle.system_conf.specs.Reads.{system_configuration};
 ghost use Rattle.boot_backends.specs.Ends.{Marks, Writes};
 ghost use Rattle.boot_backends.specs.Marked.{is_boot_name, names_of};
 ghost use Rattle.boot_backends.specs.Systems.{Keeps, Leads, Leaves, LeavesDown, MarkEnds};
@@ -86,11 +87,11 @@ pub fn mark_bad<M: Machine>(
     name: &str,
 ) -> Result<(), Stop<BootRefusal>>
     requires { is_boot_name system.now.slots name.now ≡ true }
-    ensures leaves { IsTrue M.tells → OnOk result (Leaves system.now Bad name.now (M.past m.old) (M.past m.new)) }
-    ensures down { IsTrue M.tells → OnOk result (LeavesDown system.now name.now (M.past m.old) (M.past m.new)) }
-    ensures others { IsTrue M.tells → Keeps system.now name.now (M.past m.old) (M.past m.new) }
-    ensures leads { IsTrue M.tells → Leads system.now Bad name.now (M.past m.old) (M.past m.new) }
-    ensures causes { IsTrue M.tells → MarkEnds system.now Bad name.now (M.past m.old) (M.past m.new) result }
+    ensures leaves { IsTrue M.tells → OnOk result (Leaves (system_configuration system.now) Bad name.now (M.past m.old) (M.past m.new)) }
+    ensures down { IsTrue M.tells → OnOk result (LeavesDown (system_configuration system.now) name.now (M.past m.old) (M.past m.new)) }
+    ensures others { IsTrue M.tells → Keeps (system_configuration system.now) name.now (M.past m.old) (M.past m.new) }
+    ensures leads { IsTrue M.tells → Leads (system_configuration system.now) Bad name.now (M.past m.old) (M.past m.new) }
+    ensures causes { IsTrue M.tells → MarkEnds (system_configuration system.now) Bad name.now (M.past m.old) (M.past m.new) result }
     ensures fails { Fails M.tells (M.past m.old) (M.past m.new) (stop_fault result) }
     ensures counts { StopCounted (M.faults m.old) (M.faults m.new) (M.wants m.old) (M.wants m.new) result }
 {
@@ -105,10 +106,10 @@ pub fn mark_good<M: Machine>(
     name: &str,
 ) -> Result<(), Stop<BootRefusal>>
     requires { is_boot_name system.now.slots name.now ≡ true }
-    ensures leaves { IsTrue M.tells → OnOk result (Leaves system.now Good name.now (M.past m.old) (M.past m.new)) }
-    ensures others { IsTrue M.tells → Keeps system.now name.now (M.past m.old) (M.past m.new) }
-    ensures leads { IsTrue M.tells → Leads system.now Good name.now (M.past m.old) (M.past m.new) }
-    ensures causes { IsTrue M.tells → MarkEnds system.now Good name.now (M.past m.old) (M.past m.new) result }
+    ensures leaves { IsTrue M.tells → OnOk result (Leaves (system_configuration system.now) Good name.now (M.past m.old) (M.past m.new)) }
+    ensures others { IsTrue M.tells → Keeps (system_configuration system.now) name.now (M.past m.old) (M.past m.new) }
+    ensures leads { IsTrue M.tells → Leads (system_configuration system.now) Good name.now (M.past m.old) (M.past m.new) }
+    ensures causes { IsTrue M.tells → MarkEnds (system_configuration system.now) Good name.now (M.past m.old) (M.past m.new) result }
     ensures fails { Fails M.tells (M.past m.old) (M.past m.new) (stop_fault result) }
     ensures counts { StopCounted (M.faults m.old) (M.faults m.new) (M.wants m.old) (M.wants m.new) result }
 {
@@ -123,10 +124,10 @@ pub fn make_primary<M: Machine>(
     name: &str,
 ) -> Result<(), Stop<BootRefusal>>
     requires { is_boot_name system.now.slots name.now ≡ true }
-    ensures leaves { IsTrue M.tells → OnOk result (Leaves system.now Primary name.now (M.past m.old) (M.past m.new)) }
-    ensures others { IsTrue M.tells → Keeps system.now name.now (M.past m.old) (M.past m.new) }
-    ensures leads { IsTrue M.tells → Leads system.now Primary name.now (M.past m.old) (M.past m.new) }
-    ensures causes { IsTrue M.tells → MarkEnds system.now Primary name.now (M.past m.old) (M.past m.new) result }
+    ensures leaves { IsTrue M.tells → OnOk result (Leaves (system_configuration system.now) Primary name.now (M.past m.old) (M.past m.new)) }
+    ensures others { IsTrue M.tells → Keeps (system_configuration system.now) name.now (M.past m.old) (M.past m.new) }
+    ensures leads { IsTrue M.tells → Leads (system_configuration system.now) Primary name.now (M.past m.old) (M.past m.new) }
+    ensures causes { IsTrue M.tells → MarkEnds (system_configuration system.now) Primary name.now (M.past m.old) (M.past m.new) result }
     ensures fails { Fails M.tells (M.past m.old) (M.past m.new) (stop_fault result) }
     ensures counts { StopCounted (M.faults m.old) (M.faults m.new) (M.wants m.old) (M.wants m.new) result }
 {

@@ -1,6 +1,7 @@
 ghost use Rattle.std.specs.Prelude.{◌≡◌, IsTrue, IfOk, position};
 ghost use Rattle.machine.specs.Past.{Fails};
 ghost use Rattle.machine.specs.Stops.{StopCounted, stop_fault};
+ghost use Rattle.system_conf.specs.Reads.{system_configuration};
 ghost use Rattle.boot_backends.specs.Marked.{has_boot_name, names_of, primary_slot};
 ghost use Rattle.boot_backends.specs.Systems.{PrimaryEnds, ReadEnds, ReadsOnly, Tells, TellsPrimary};
 
@@ -22,9 +23,9 @@ pub fn read_vars<M: Machine>(
     m: &mut M,
     system: &System,
 ) -> Result<Vars, Stop<BootRefusal>>
-    ensures tells { IsTrue M.tells → IfOk result (Tells system.now (M.past m.old) (M.past m.new)) }
-    ensures kept { IsTrue M.tells → ReadsOnly system.now (M.past m.old) (M.past m.new) }
-    ensures causes { IsTrue M.tells → ReadEnds system.now (M.past m.old) (M.past m.new) result }
+    ensures tells { IsTrue M.tells → IfOk result (Tells (system_configuration system.now) (M.past m.old) (M.past m.new)) }
+    ensures kept { IsTrue M.tells → ReadsOnly (system_configuration system.now) (M.past m.old) (M.past m.new) }
+    ensures causes { IsTrue M.tells → ReadEnds (system_configuration system.now) (M.past m.old) (M.past m.new) result }
     ensures fails { Fails M.tells (M.past m.old) (M.past m.new) (stop_fault result) }
     ensures counts { StopCounted (M.faults m.old) (M.faults m.new) (M.wants m.old) (M.wants m.new) result }
 {
@@ -66,9 +67,9 @@ pub fn primary<M: Machine>(
     m: &mut M,
     system: &System,
 ) -> Result<Option<usize>, Stop<BootRefusal>>
-    ensures tells { IsTrue M.tells → IfOk result (TellsPrimary system.now (M.past m.old) (M.past m.new)) }
-    ensures kept { IsTrue M.tells → ReadsOnly system.now (M.past m.old) (M.past m.new) }
-    ensures causes { IsTrue M.tells → PrimaryEnds system.now (M.past m.old) (M.past m.new) result }
+    ensures tells { IsTrue M.tells → IfOk result (TellsPrimary (system_configuration system.now) (M.past m.old) (M.past m.new)) }
+    ensures kept { IsTrue M.tells → ReadsOnly (system_configuration system.now) (M.past m.old) (M.past m.new) }
+    ensures causes { IsTrue M.tells → PrimaryEnds (system_configuration system.now) (M.past m.old) (M.past m.new) result }
     ensures fails { Fails M.tells (M.past m.old) (M.past m.new) (stop_fault result) }
     ensures counts { StopCounted (M.faults m.old) (M.faults m.new) (M.wants m.old) (M.wants m.new) result }
 {

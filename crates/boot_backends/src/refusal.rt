@@ -2,7 +2,7 @@ use machine::Ended;
 use updater_text::{Items, Text};
 
 /// Why a boot loader's programs did not mark a name or tell the variables.
-#[derive(Drop)]
+#[derive(Debug, Drop)]
 pub enum BootRefusal {
     /// The program with these words ended so. It ends with status 0, or `fw_printenv`, for a variable
     /// that is not set, with 1 and without output.

@@ -19,7 +19,7 @@ use Rattle.machine.specs.Stops.{stop_fault}
 use Rattle.machine.specs.World.{put_under, with_file}
 use Rattle.machine.proofs.Failing.{fails_join}
 use Rattle.machine.proofs.Moments.{always_joins, always_now, always_weaker, held_of, held_splits, same_boot}
-use Rattle.system_conf.specs.declared.system.System.{System}
+use Rattle.system_conf.specs.Configuration.{Configuration}
 use Rattle.boot_backends.specs.declared.refusal.BootRefusal.{BootRefusal}
 use Rattle.boot_backends.specs.Causes.{MarkCause}
 use Rattle.boot_backends.specs.Marked.{names_of}
@@ -55,7 +55,7 @@ unfolding with_file
 vars_put path text w u (inl e) = ap (λ (x : World). x.vars) e
 vars_put path text w u (inr e) = ap (λ (x : World). x.vars) e
 
-module _ (s : System) (name path text : List ℕ) where
+module _ (s : Configuration) (name path text : List ℕ) where
   abbrev commands : Variables → List Command
   commands read = commands_of s.boot (names_of s.slots) boot.Primary name read
 

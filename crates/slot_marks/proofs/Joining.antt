@@ -14,7 +14,7 @@ use Rattle.machine.proofs.Failing.{fails_join, fails_none}
 use Rattle.machine.proofs.Joins.{unchanged_none}
 use Rattle.machine.proofs.Moments.{always_joins, always_weaker}
 use Rattle.system_conf.specs.declared.slot.Slot.{Slot}
-use Rattle.system_conf.specs.declared.system.System.{System}
+use Rattle.system_conf.specs.Configuration.{Configuration}
 use Rattle.boot_backends.specs.declared.refusal.BootRefusal.{BootRefusal}
 use Rattle.boot_backends.specs.Marked.{names_of}
 use Rattle.boot_backends.specs.Systems.{Keeps, Leaves, MarkEnds}
@@ -44,15 +44,15 @@ fails_as T R t a b stop f = subst (λ (k : Option Fault). Fails t a b k) (same_f
 
 -- ---- nothing was changed
 
-to_unchanged : (s : System) (path : List ℕ) (at : ℕ) (a b : Past) (text : Option (List ℕ)) → Always a b (λ u. u ≡ world_now a) → LeadsTo s path at a b text
+to_unchanged : (s : Configuration) (path : List ℕ) (at : ℕ) (a b : Past) (text : Option (List ℕ)) → Always a b (λ u. u ≡ world_now a) → LeadsTo s path at a b text
 to_unchanged s path at a b (Some text) same = with_unchanged s (bootname_text s.slots at) path text a b same
 to_unchanged s path at a b None same = same
 
-at_unchanged : (s : System) (act : Action) (noted : Option (List ℕ)) (a b : Past) (at : ℕ) → Always a b (λ u. u ≡ world_now a) → LeadsAt s act noted a b at
+at_unchanged : (s : Configuration) (act : Action) (noted : Option (List ℕ)) (a b : Past) (at : ℕ) → Always a b (λ u. u ≡ world_now a) → LeadsAt s act noted a b at
 at_unchanged s act None a b at same = led_unchanged s.boot (names_of s.slots) (mark_of act) (bootname_text s.slots at) a b same
 at_unchanged s act (Some path) a b at same = to_unchanged s path at a b (new_text s.slots (file (world_now a) path) at (clock_since a b)) same
 
-marks_quiet : (t : Bool) (s : System) (act : Action) (noted : Option (List ℕ)) (choice : Result ℕ MarkRefusal) (a b : Past) (stop : Stop MarkRefusal) → Unchanged t a b → (IsTrue t → MarkAnswers s act noted choice (clock_since a b) (world_now a) (world_now b) (Err stop)) → Fails t a b (stop_fault {T = Marked} (Err stop)) → Marks t s act noted choice a b (Err stop)
+marks_quiet : (t : Bool) (s : Configuration) (act : Action) (noted : Option (List ℕ)) (choice : Result ℕ MarkRefusal) (a b : Past) (stop : Stop MarkRefusal) → Unchanged t a b → (IsTrue t → MarkAnswers s act noted choice (clock_since a b) (world_now a) (world_now b) (Err stop)) → Fails t a b (stop_fault {T = Marked} (Err stop)) → Marks t s act noted choice a b (Err stop)
 marks_quiet t s act noted choice a b stop unchanged answers fails = record {
   answers = answers;
   leaves = λ told. tt;
@@ -69,17 +69,17 @@ marks_quiet t s act noted choice a b stop unchanged answers fails = record {
     led (Ok at) same = at_unchanged s act noted a b at same
     led (Err why) same = same
 
-outside_answers : (s : System) (act : Action) (noted : Option (List ℕ)) (at : ℕ) (clock : Option ℤ) (w v : World) (kind : Fault) → MarkAnswers s act noted (Ok at) clock w v (Err (Outside kind))
+outside_answers : (s : Configuration) (act : Action) (noted : Option (List ℕ)) (at : ℕ) (clock : Option ℤ) (w v : World) (kind : Fault) → MarkAnswers s act noted (Ok at) clock w v (Err (Outside kind))
 outside_answers s act None at clock w v kind = tt
 outside_answers s act (Some path) at clock w v kind = tt
 
-memory_answers : (s : System) (act : Action) (noted : Option (List ℕ)) (choice : Result ℕ MarkRefusal) (clock : Option ℤ) (w v : World) → MarkAnswers s act noted choice clock w v (Err NoMemory)
+memory_answers : (s : Configuration) (act : Action) (noted : Option (List ℕ)) (choice : Result ℕ MarkRefusal) (clock : Option ℤ) (w v : World) → MarkAnswers s act noted choice clock w v (Err NoMemory)
 memory_answers s act None (Ok at) clock w v = tt
 memory_answers s act (Some path) (Ok at) clock w v = tt
 memory_answers s act noted (Err why) clock w v = tt
 
 -- the refusal is that of the choice, or a call failed
-pub marks_refused : (t : Bool) (s : System) (act : Action) (noted : Option (List ℕ)) (choice : Result ℕ MarkRefusal) (a b : Past) (stop : Stop MarkRefusal) → Chooses t choice a b (Err stop) → Marks t s act noted choice a b (Err stop)
+pub marks_refused : (t : Bool) (s : Configuration) (act : Action) (noted : Option (List ℕ)) (choice : Result ℕ MarkRefusal) (a b : Past) (stop : Stop MarkRefusal) → Chooses t choice a b (Err stop) → Marks t s act noted choice a b (Err stop)
 marks_refused t s act noted choice a b stop h =
     marks_quiet t s act noted choice a b stop h.unchanged (λ told. answered choice stop (h.answers told)) (fails_as ℕ Marked t a b stop h.fails)
   where
@@ -95,24 +95,24 @@ marks_refused t s act noted choice a b stop h =
     answered (Err why) NoMemory e = tt
 
 -- there was no memory for the line
-pub marks_nothing : (t : Bool) (s : System) (act : Action) (noted : Option (List ℕ)) (at : ℕ) (a : Past) → Marks t s act noted (Ok at) a a (Err NoMemory)
+pub marks_nothing : (t : Bool) (s : Configuration) (act : Action) (noted : Option (List ℕ)) (at : ℕ) (a : Past) → Marks t s act noted (Ok at) a a (Err NoMemory)
 marks_nothing t s act noted at a =
     marks_quiet t s act noted (Ok at) a a NoMemory (unchanged_none t a) (λ told. memory_answers s act noted (Ok at) (clock_since a a) (world_now a) (world_now a)) (fails_none t a)
 
 -- ---- the slot was chosen, and then marked
 
-to_after : (s : System) (path : List ℕ) (at : ℕ) (a b z : Past) (text : Option (List ℕ)) → Always a b (λ u. u ≡ world_now a) → LeadsTo s path at b z text → LeadsTo s path at a z text
+to_after : (s : Configuration) (path : List ℕ) (at : ℕ) (a b z : Past) (text : Option (List ℕ)) → Always a b (λ u. u ≡ world_now a) → LeadsTo s path at b z text → LeadsTo s path at a z text
 to_after s path at a b z (Some text) same led = with_after s (bootname_text s.slots at) path text a b z same led
 to_after s path at a b z None same later =
     always_joins a b z (λ u. u ≡ world_now a) same (always_weaker b z (λ u. u ≡ world_now b) (λ u. u ≡ world_now a) (λ u e. e ∙ world_same a b same) later)
 
-at_after : (s : System) (act : Action) (noted : Option (List ℕ)) (at : ℕ) (a b z : Past) → Always a b (λ u. u ≡ world_now a) → clock_since a z ≡ clock_since b z → LeadsAt s act noted b z at → LeadsAt s act noted a z at
+at_after : (s : Configuration) (act : Action) (noted : Option (List ℕ)) (at : ℕ) (a b z : Past) → Always a b (λ u. u ≡ world_now a) → clock_since a z ≡ clock_since b z → LeadsAt s act noted b z at → LeadsAt s act noted a z at
 at_after s act None at a b z same clock led = led_after s.boot (names_of s.slots) (mark_of act) (bootname_text s.slots at) a b same z led
 at_after s act (Some path) at a b z same clock led =
     to_after s path at a b z (new_text s.slots (file (world_now a) path) at (clock_since a z)) same
     (subst (λ (o : Option (List ℕ)). LeadsTo s path at b z o) (λ i. new_text s.slots (file (world_same a b same i) path) at (sym clock i)) led)
 
-pub marks_after : (t : Bool) (s : System) (act : Action) (noted : Option (List ℕ)) (choice : Result ℕ MarkRefusal) (at : ℕ) (a b z : Past) (result : Result Marked (Stop MarkRefusal)) → Chooses t choice a b (Ok at) → Marks t s act noted (Ok at) b z result → Marks t s act noted choice a z result
+pub marks_after : (t : Bool) (s : Configuration) (act : Action) (noted : Option (List ℕ)) (choice : Result ℕ MarkRefusal) (at : ℕ) (a b z : Past) (result : Result Marked (Stop MarkRefusal)) → Chooses t choice a b (Ok at) → Marks t s act noted (Ok at) b z result → Marks t s act noted choice a z result
 marks_after t s act noted choice at a b z result h m = record {
   answers = λ told.
       let same = h.unchanged.all told in
@@ -136,7 +136,7 @@ marks_after t s act noted choice at a b z result h m = record {
 
 -- ---- without a status file
 
-pub marks_done : (t : Bool) (s : System) (act : Action) (at : ℕ) (a z : Past) (marked : Marked) → marked ≡ marked_at s.slots act at false → MarksName t s (mark_of act) (bootname_text s.slots at) a z (Ok tt) → Marks t s act None (Ok at) a z (Ok marked)
+pub marks_done : (t : Bool) (s : Configuration) (act : Action) (at : ℕ) (a z : Past) (marked : Marked) → marked ≡ marked_at s.slots act at false → MarksName t s (mark_of act) (bootname_text s.slots at) a z (Ok tt) → Marks t s act None (Ok at) a z (Ok marked)
 marks_done t s act at a z marked is m = record {
   answers = λ told. (is, m.causes told);
   leaves = m.leaves;
@@ -145,7 +145,7 @@ marks_done t s act at a z marked is m = record {
   fails = m.fails;
 }
 
-pub marks_stopped : (t : Bool) (s : System) (act : Action) (at : ℕ) (a z : Past) (stop : Stop BootRefusal) → MarksName t s (mark_of act) (bootname_text s.slots at) a z (Err stop) → Marks t s act None (Ok at) a z (Err (boot_stop stop))
+pub marks_stopped : (t : Bool) (s : Configuration) (act : Action) (at : ℕ) (a z : Past) (stop : Stop BootRefusal) → MarksName t s (mark_of act) (bootname_text s.slots at) a z (Err stop) → Marks t s act None (Ok at) a z (Err (boot_stop stop))
 marks_stopped t s act at a z stop m = record {
   answers = λ told. answered stop (m.causes told);
   leaves = λ told. tt;
@@ -167,7 +167,7 @@ marks_stopped t s act at a z stop m = record {
 -- ---- with one
 
 -- its text was not made
-pub acts_refused : (t : Bool) (s : System) (path : List ℕ) (at : ℕ) (a b : Past) (stop : Stop MarkRefusal) → Prepares t s.slots path at a b (Err stop) → Marks t s action.Active (Some path) (Ok at) a b (Err stop)
+pub acts_refused : (t : Bool) (s : Configuration) (path : List ℕ) (at : ℕ) (a b : Past) (stop : Stop MarkRefusal) → Prepares t s.slots path at a b (Err stop) → Marks t s action.Active (Some path) (Ok at) a b (Err stop)
 acts_refused t s path at a b stop p =
     marks_quiet t s action.Active (Some path) (Ok at) a b stop p.unchanged (λ told. answered stop (p.answers told)) (fails_as Noted Marked t a b stop p.fails)
   where
@@ -185,7 +185,7 @@ text_is : (slots : List Slot) (there : Option (List ℕ)) (at : ℕ) (clock : Op
 text_is slots there at clock seconds text said ready is =
     ap (new_text slots there at) said ∙ ap (λ r. if_ready r (activated_text slots (book_in slots there) at seconds)) ready ∙ ap (λ (t : List ℕ). Some t) (sym is)
 
-module _ (t : Bool) (s : System) (path : List ℕ) (at : ℕ) (a b z : Past) (noted : Noted) (p : Prepares t s.slots path at a b (Ok noted)) where
+module _ (t : Bool) (s : Configuration) (path : List ℕ) (at : ℕ) (a b z : Past) (noted : Noted) (p : Prepares t s.slots path at a b (Ok noted)) where
   abbrev there : Option (List ℕ)
   there = file (world_now a) path
 

@@ -14,7 +14,7 @@ use Rattle.boot_backends.specs.Causes.{MarkCause}
 use Rattle.boot_backends.specs.Marked.{names_of}
 use Rattle.boot_backends.specs.Systems.{Keeps, Leads, Leaves}
 use Rattle.system_conf.specs.declared.slot.Slot.{Slot}
-use Rattle.system_conf.specs.declared.system.System.{System}
+use Rattle.system_conf.specs.Configuration.{Configuration}
 use Rattle.slot_status.specs.Refusals.{ready_refusal}
 use Rattle.status_file.specs.Clock.{clock_since}
 use Rattle.status_file.specs.Status.{book_in, is_unread}
@@ -29,11 +29,11 @@ use Rattle.slot_marks.specs.Noting.{HasPut, LeadsWith, activated_text, new_text}
 -- ---- the answer
 
 -- the commands of a mark of the slot at a place ended so, by the runs from w to v
-abbrev pub MarkRan : System → Mark → ℕ → World → World → Result ⊤ (Stop BootRefusal) → Type 0
+abbrev pub MarkRan : Configuration → Mark → ℕ → World → World → Result ⊤ (Stop BootRefusal) → Type 0
 MarkRan s mark at w v result = MarkCause s.boot (names_of s.slots) mark (bootname_text s.slots at) (runs_since w v) result
 
 -- the slot at a place is marked, where the commands ended so; or why the programs did not do it
-abbrev pub PlainAnswers : System → Action → ℕ → World → World → Result Marked (Stop MarkRefusal) → Type 0
+abbrev pub PlainAnswers : Configuration → Action → ℕ → World → World → Result Marked (Stop MarkRefusal) → Type 0
 PlainAnswers s act at w v (Ok marked) = (marked ≡ marked_at s.slots act at false) × MarkRan s (mark_of act) at w v (Ok tt)
 PlainAnswers s act at w v (Err (Refused (mark.Boot why))) = MarkRan s (mark_of act) at w v (Err (Refused why))
 PlainAnswers s act at w v (Err (Refused why)) = ⊥
@@ -46,7 +46,7 @@ pub record IsReady (slots : List Slot) (there : Option (List ℕ)) (at : ℕ) (c
   pub ready : ready_refusal (book_in slots there) at seconds ≡ None
 
 -- with a status file: the slot is activated, where the commands ended so and the new file stands there; or why its record may not change, or why the programs did not do it
-abbrev pub NotedAnswers : System → List ℕ → ℕ → Option ℤ → World → World → Result Marked (Stop MarkRefusal) → Type 0
+abbrev pub NotedAnswers : Configuration → List ℕ → ℕ → Option ℤ → World → World → Result Marked (Stop MarkRefusal) → Type 0
 NotedAnswers s path at clock w v (Ok marked) =
     (seconds : ℤ) × IsReady s.slots (file w path) at clock seconds
     × (marked ≡ marked_at s.slots action.Active at (is_unread s.slots (file w path)))
@@ -61,7 +61,7 @@ NotedAnswers s path at clock w v (Err (Outside kind)) = Unit {0}
 NotedAnswers s path at clock w v (Err NoMemory) = Unit {0}
 
 -- the refusal of the choice; or else the answer for the slot that was chosen, with the status file that is written or without one
-abbrev pub MarkAnswers : System → Action → Option (List ℕ) → Result ℕ MarkRefusal → Option ℤ → World → World → Result Marked (Stop MarkRefusal) → Type 0
+abbrev pub MarkAnswers : Configuration → Action → Option (List ℕ) → Result ℕ MarkRefusal → Option ℤ → World → World → Result Marked (Stop MarkRefusal) → Type 0
 MarkAnswers s act noted (Err why) clock w v result = Settles result (Err why)
 MarkAnswers s act None (Ok at) clock w v result = PlainAnswers s act at w v result
 MarkAnswers s act (Some path) (Ok at) clock w v result = NotedAnswers s path at clock w v result
@@ -74,18 +74,18 @@ OfChosen (Ok at) old new P = P at
 OfChosen (Err why) old new P = Always old new (λ u. u ≡ world_now old)
 
 -- the name was made primary with this new text of the status file; without one, nothing was changed
-abbrev pub LeadsTo : System → List ℕ → ℕ → Past → Past → Option (List ℕ) → Type 0
+abbrev pub LeadsTo : Configuration → List ℕ → ℕ → Past → Past → Option (List ℕ) → Type 0
 LeadsTo s path at old new (Some text) = LeadsWith s (bootname_text s.slots at) path text old new
 LeadsTo s path at old new None = Always old new (λ u. u ≡ world_now old)
 
 -- at each moment since, and wherever the power stops: the first of the mark's commands were run, and the status file is the one before or the new one, where one is written
-abbrev pub LeadsAt : System → Action → Option (List ℕ) → Past → Past → ℕ → Type 0
+abbrev pub LeadsAt : Configuration → Action → Option (List ℕ) → Past → Past → ℕ → Type 0
 LeadsAt s act None old new at = Leads s (mark_of act) (bootname_text s.slots at) old new
 LeadsAt s act (Some path) old new at =
     LeadsTo s path at old new (new_text s.slots (file (world_now old) path) at (clock_since old new))
 
 -- where told, a mark of the slot that this choice gives, with the status file that is written, if any: what it answers; what honest programs left, and what others keep; which commands were run at each moment, and wherever the power stops; and which call failed
-pub record Marks (tells : Bool) (s : System) (act : Action) (noted : Option (List ℕ)) (choice : Result ℕ MarkRefusal) (old new : Past) (result : Result Marked (Stop MarkRefusal)) : Type 0 where
+pub record Marks (tells : Bool) (s : Configuration) (act : Action) (noted : Option (List ℕ)) (choice : Result ℕ MarkRefusal) (old new : Past) (result : Result Marked (Stop MarkRefusal)) : Type 0 where
   pub answers : IsTrue tells → MarkAnswers s act noted choice (clock_since old new) (world_now old) (world_now new) result
   pub leaves : IsTrue tells → OnOk result (OfChosen choice old new (λ at. Leaves s (mark_of act) (bootname_text s.slots at) old new))
   pub others : IsTrue tells → OfChosen choice old new (λ at. Keeps s (bootname_text s.slots at) old new)

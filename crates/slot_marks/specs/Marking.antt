@@ -11,7 +11,7 @@ use Rattle.boot_commands.specs.declared.command.Mark.TheVariants as boot
 use Rattle.boot_backends.specs.declared.refusal.BootRefusal.{BootRefusal}
 use Rattle.boot_backends.specs.Systems.{Keeps, Leads, Leaves, MarkEnds}
 use Rattle.system_conf.specs.declared.slot.Slot.{Slot}
-use Rattle.system_conf.specs.declared.system.System.{System}
+use Rattle.system_conf.specs.Configuration.{Configuration}
 use Rattle.slot_graph.specs.declared.state.Booted.{Booted}
 use Rattle.slot_graph.specs.declared.state.Booted.TheVariants as booted
 use Rattle.running_system.specs.Running.{what_runs}
@@ -76,7 +76,7 @@ boot_stop (Outside kind) = Outside kind
 boot_stop NoMemory = NoMemory
 
 -- where told, a mark of a bootname: with honest programs it leaves what it is to leave, and other names keep what they are; the first of its commands were run at each moment and wherever the power stops; its answer follows from the runs
-pub record MarksName (tells : Bool) (s : System) (mark : Mark) (name : List ℕ) (old new : Past) (result : Result ⊤ (Stop BootRefusal)) : Type 0 where
+pub record MarksName (tells : Bool) (s : Configuration) (mark : Mark) (name : List ℕ) (old new : Past) (result : Result ⊤ (Stop BootRefusal)) : Type 0 where
   pub leaves : IsTrue tells → OnOk result (Leaves s mark name old new)
   pub others : IsTrue tells → Keeps s name old new
   pub leads : IsTrue tells → Leads s mark name old new

@@ -11,7 +11,7 @@ use Rattle.machine.specs.Past.{Always, Fails, Held, Past, world_now}
 use Rattle.machine.specs.Stops.{stop_fault}
 use Rattle.machine.specs.World.{file, put_under, with_file}
 use Rattle.system_conf.specs.declared.slot.Slot.{Slot}
-use Rattle.system_conf.specs.declared.system.System.{System}
+use Rattle.system_conf.specs.Configuration.{Configuration}
 use Rattle.slot_status.specs.Changes.{activated}
 use Rattle.slot_status.specs.Records.{RecordContent}
 use Rattle.slot_status.specs.Refusals.{ready_refusal}
@@ -31,7 +31,7 @@ use Rattle.slot_marks.specs.declared.refusal.MarkRefusal.TheVariants as mark
 -- ---- the text
 
 -- the status file that an action writes, where there is one
-abbrev pub noted_by : System → Action → Option (List ℕ)
+abbrev pub noted_by : Configuration → Action → Option (List ℕ)
 noted_by s action.Good = None
 noted_by s action.Bad = None
 noted_by s action.Active = s.status_file
@@ -87,19 +87,19 @@ OnlyStatus (Err NoMemory) = Unit {0}
 -- ---- the mark, and then the new file
 
 -- the first of the mark's commands were run, in w or in w with this file
-abbrev pub ThroughWith : System → List ℕ → List ℕ → List ℕ → Variables → Past → World → Type 0
+abbrev pub ThroughWith : Configuration → List ℕ → List ℕ → List ℕ → Variables → Past → World → Type 0
 ThroughWith s name path text read old u =
     Through old.boot (commands_of s.boot (names_of s.slots) boot.Primary name read) (world_now old) u
     ⊎ Through old.boot (commands_of s.boot (names_of s.slots) boot.Primary name read) (with_file (world_now old) path text) u
 
 -- what a stop left of such a world
-abbrev pub StoppedWith : System → List ℕ → List ℕ → List ℕ → Variables → Past → World → Type 0
+abbrev pub StoppedWith : Configuration → List ℕ → List ℕ → List ℕ → Variables → Past → World → Type 0
 StoppedWith s name path text read old v =
     StoppedThrough old.boot (commands_of s.boot (names_of s.slots) boot.Primary name read) (world_now old) v
     ⊎ StoppedThrough old.boot (commands_of s.boot (names_of s.slots) boot.Primary name read) (with_file (world_now old) path text) v
 
 -- at each moment since, the first of the commands were run that make the name primary, by what was read, and the file is the one before or the new one; and so it is wherever the power stops
-pub record LeadsWith (s : System) (name path text : List ℕ) (old new : Past) : Type 0 where
+pub record LeadsWith (s : Configuration) (name path text : List ℕ) (old new : Past) : Type 0 where
   pub read : Variables
   pub moments : Always old new (ThroughWith s name path text read old)
   pub stops : (v : World) → Held old new v → StoppedWith s name path text read old v
@@ -109,7 +109,7 @@ abbrev pub HasPut : List ℕ → List ℕ → World → World → Type 0
 HasPut path text w v = v.files ≡ put_under w.files path text
 
 -- the answer follows from the runs; on Ok the new file stands there
-abbrev pub PutEnds : System → List ℕ → List ℕ → List ℕ → Past → Past → Result ⊤ (Stop MarkRefusal) → Type 0
+abbrev pub PutEnds : Configuration → List ℕ → List ℕ → List ℕ → Past → Past → Result ⊤ (Stop MarkRefusal) → Type 0
 PutEnds s name path text old new (Ok x) = MarkEnds s boot.Primary name old new (Ok tt) × HasPut path text (world_now old) (world_now new)
 PutEnds s name path text old new (Err (Refused (mark.Boot why))) = MarkEnds s boot.Primary name old new (Err (Refused why))
 PutEnds s name path text old new (Err (Refused why)) = ⊥
@@ -117,7 +117,7 @@ PutEnds s name path text old new (Err (Outside kind)) = Unit {0}
 PutEnds s name path text old new (Err NoMemory) = Unit {0}
 
 -- where told, a name is made primary, and then the file is put
-pub record MarksAndPuts (tells : Bool) (s : System) (name path text : List ℕ) (old new : Past) (result : Result ⊤ (Stop MarkRefusal)) : Type 0 where
+pub record MarksAndPuts (tells : Bool) (s : Configuration) (name path text : List ℕ) (old new : Past) (result : Result ⊤ (Stop MarkRefusal)) : Type 0 where
   pub leaves : IsTrue tells → OnOk result (Leaves s boot.Primary name old new)
   pub others : IsTrue tells → Keeps s name old new
   pub leads : IsTrue tells → LeadsWith s name path text old new

@@ -1,6 +1,7 @@
 ghost use Rattle.std.specs.Prelude.{◌≡◌, None, Ok, Some, is_some, option_map, true};
 ghost use Rattle.machine.specs.Past.{world_now};
 ghost use Rattle.machine.specs.Stops.{StopCounted};
+ghost use Rattle.system_conf.specs.Reads.{system_configuration};
 ghost use Rattle.slot_marks.specs.Answers.{MarkedFor, MarkedThere, Marks};
 ghost use Rattle.slot_marks.specs.Choice.{bootname_at};
 ghost use Rattle.slot_marks.specs.Marking.{choice};
@@ -24,7 +25,7 @@ fn mark_slot<M: Machine>(
     at: usize,
 ) -> Result<Marked, Stop<MarkRefusal>>
     requires { is_some (bootname_at system.now.slots at) ≡ true }
-    ensures marks { Marks M.tells system.now action None (Ok at) (M.past m.old) (M.past m.new) result }
+    ensures marks { Marks M.tells (system_configuration system.now) action None (Ok at) (M.past m.old) (M.past m.new) result }
     ensures named { MarkedThere system.now.slots action at result }
     ensures counts { StopCounted (M.faults m.old) (M.faults m.new) (M.wants m.old) (M.wants m.new) result }
 {
@@ -52,7 +53,7 @@ fn activate<M: Machine>(
     at: usize,
 ) -> Result<Marked, Stop<MarkRefusal>>
     requires { is_some (bootname_at system.now.slots at) ≡ true }
-    ensures marks { Marks M.tells system.now Action.Active (Some path.now) (Ok at) (M.past m.old) (M.past m.new) result }
+    ensures marks { Marks M.tells (system_configuration system.now) Action.Active (Some path.now) (Ok at) (M.past m.old) (M.past m.new) result }
     ensures named { MarkedThere system.now.slots Action.Active at result }
     ensures counts { StopCounted (M.faults m.old) (M.faults m.new) (M.wants m.old) (M.wants m.new) result }
 {
@@ -85,7 +86,7 @@ fn mark_at<M: Machine>(
     at: usize,
 ) -> Result<Marked, Stop<MarkRefusal>>
     requires { is_some (bootname_at system.now.slots at) ≡ true }
-    ensures marks { Marks M.tells system.now action (noted_by system.now action) (Ok at) (M.past m.old) (M.past m.new) result }
+    ensures marks { Marks M.tells (system_configuration system.now) action (noted_by (system_configuration system.now) action) (Ok at) (M.past m.old) (M.past m.new) result }
     ensures named { MarkedThere system.now.slots action at result }
     ensures counts { StopCounted (M.faults m.old) (M.faults m.new) (M.wants m.old) (M.wants m.new) result }
 {
@@ -114,8 +115,8 @@ pub fn mark<M: Machine>(
 ) -> Result<Marked, Stop<MarkRefusal>>
     ensures marks { let name = option_map (λ name. name.now) given.entry in
         let slot = choice system.now.slots name who.now (world_now (M.past m.old)) in
-        let noted = noted_by system.now action in
-        Marks M.tells system.now action noted slot (M.past m.old) (M.past m.new) result }
+        let noted = noted_by (system_configuration system.now) action in
+        Marks M.tells (system_configuration system.now) action noted slot (M.past m.old) (M.past m.new) result }
     ensures named { MarkedFor system.now.slots action who.now result }
     ensures counts { StopCounted (M.faults m.old) (M.faults m.new) (M.wants m.old) (M.wants m.new) result }
 {

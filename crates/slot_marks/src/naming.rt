@@ -1,5 +1,6 @@
 ghost use Rattle.std.specs.Prelude.{◌≡◌, IfOk, true};
 ghost use Rattle.machine.specs.Stops.{StopCounted};
+ghost use Rattle.system_conf.specs.Reads.{system_configuration};
 ghost use Rattle.boot_backends.specs.Marked.{is_boot_name};
 ghost use Rattle.slot_marks.specs.Marking.{MarksName, boot_stop, bootname_text, line_of, mark_of};
 
@@ -11,7 +12,7 @@ use system_conf::{Slot, System};
 use updater_text::{NoMemory, Text};
 
 /// What a slot is marked as.
-#[derive(Clone, Copy)]
+#[derive(Clone, Copy, Debug)]
 pub enum Action {
     /// It works.
     Good,
@@ -23,7 +24,7 @@ pub enum Action {
 
 /// A slot that was marked: its place among the slots, in one line what was done, and whether there
 /// is a status file that had to be read and could not be.
-#[derive(Drop)]
+#[derive(Debug, Drop)]
 pub struct Marked {
     pub slot: usize,
     pub line: Text,
@@ -64,7 +65,7 @@ pub fn mark_name<M: Machine>(
     name: &str,
 ) -> Result<(), Stop<BootRefusal>>
     requires { is_boot_name system.now.slots name.now ≡ true }
-    ensures marks { MarksName M.tells system.now (mark_of action) name.now (M.past m.old) (M.past m.new) result }
+    ensures marks { MarksName M.tells (system_configuration system.now) (mark_of action) name.now (M.past m.old) (M.past m.new) result }
     ensures counts { StopCounted (M.faults m.old) (M.faults m.new) (M.wants m.old) (M.wants m.new) result }
 {
     match action {

@@ -3,6 +3,7 @@ ghost use Rattle.machine.specs.Frames.{ReplacesOnly};
 ghost use Rattle.machine.specs.Past.{Fails, world_now};
 ghost use Rattle.machine.specs.Stops.{StopCounted, stop_fault};
 ghost use Rattle.machine.specs.World.{with_file};
+ghost use Rattle.system_conf.specs.Reads.{system_configuration};
 ghost use Rattle.boot_backends.specs.Marked.{is_boot_name};
 ghost use Rattle.slot_marks.specs.Noting.{MarksAndPuts, NotedBy, NothingRefused, OnlyBoot, OnlyStatus, Prepares, activated_text};
 
@@ -118,7 +119,7 @@ pub fn mark_and_put<M: Machine>(
     text: &[u8],
 ) -> Result<(), Stop<MarkRefusal>>
     requires { is_boot_name system.now.slots name.now ≡ true }
-    ensures marks { MarksAndPuts M.tells system.now name.now path.now text.now (M.past m.old) (M.past m.new) result }
+    ensures marks { MarksAndPuts M.tells (system_configuration system.now) name.now path.now text.now (M.past m.old) (M.past m.new) result }
     ensures refuses { OnlyBoot result }
     ensures counts { StopCounted (M.faults m.old) (M.faults m.new) (M.wants m.old) (M.wants m.new) result }
 {

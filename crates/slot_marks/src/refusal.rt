@@ -3,7 +3,7 @@ use slot_status::StatusRefusal;
 use updater_text::Text;
 
 /// Why a slot is not marked.
-#[derive(Drop)]
+#[derive(Debug, Drop)]
 pub enum MarkRefusal {
     /// No slot of the configuration has this name; or the booted slot or the other one was asked for,
     /// and it is not known which slot is booted, or none is.

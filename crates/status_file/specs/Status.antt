@@ -7,7 +7,7 @@ use Rattle.machine.specs.World.{file}
 use Rattle.machine.specs.declared.world.World.{World}
 use Rattle.slot_status.specs.Records.{RecordContent, book_of, no_record}
 use Rattle.system_conf.specs.declared.slot.Slot.{Slot}
-use Rattle.system_conf.specs.declared.system.System.{System}
+use Rattle.system_conf.specs.Configuration.{Configuration}
 use Rattle.status_file.specs.declared.reading.StatusRead.{StatusRead}
 
 abbrev pub names_in : List Slot → List Text
@@ -41,9 +41,9 @@ pub record IsBlank (slots : List Slot) (failed : Bool) (read : StatusRead) : Typ
   pub unread : read.unread ≡ failed
 
 -- the bytes of the status file of a system, where it has one and that is there
-abbrev pub status_bytes : System → World → Option Text
+abbrev pub status_bytes : Configuration → World → Option Text
 status_bytes s w = option_and_then (λ path. file w path) s.status_file
 
 -- this is what it says in a world
-abbrev pub IsStored : System → World → StatusRead → Type 0
+abbrev pub IsStored : Configuration → World → StatusRead → Type 0
 IsStored s w read = IsReadOf s.slots (status_bytes s w) read

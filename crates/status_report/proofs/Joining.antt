@@ -22,7 +22,7 @@ use Rattle.machine.specs.Runs.{runs_since}
 use Rattle.machine.specs.Stops.{stop_fault}
 use Rattle.machine.proofs.Joins.{now_unchanged}
 use Rattle.machine.proofs.Moments.{always_joins, always_now, always_weaker}
-use Rattle.system_conf.specs.declared.system.System.{System}
+use Rattle.system_conf.specs.Configuration.{Configuration}
 use Rattle.status_report.specs.declared.view.StatusView.{StatusView}
 use Rattle.status_report.specs.Views.{TellsVars, ViewCause, read_stop}
 
@@ -59,13 +59,13 @@ module _ (t : Bool) (told : IsTrue t) (boot : BootKind) (names : List (List ℕ)
   runs_behind cd = runs_before ∙ ap (λ (w : World). runs_since (world_now a) w) (sym (now_unchanged t c d cd told))
 
 -- the reading stopped
-pub view_stopped : (s : System) (before notes : List RunNote) (stop : Stop BootRefusal) → before ≡ notes → CommandsCause (readings s.boot (names_of s.slots)) fin.empty before (Err stop) → ViewCause s notes (Err stop)
+pub view_stopped : (s : Configuration) (before notes : List RunNote) (stop : Stop BootRefusal) → before ≡ notes → CommandsCause (readings s.boot (names_of s.slots)) fin.empty before (Err stop) → ViewCause s notes (Err stop)
 view_stopped s before notes (Refused why) are h = subst (λ (ns : List RunNote). CommandsCause (readings s.boot (names_of s.slots)) fin.empty ns (Err (Refused why))) are h
 view_stopped s before notes (Outside kind) are h = tt
 view_stopped s before notes NoMemory are h = tt
 
 -- it read all
-pub view_read : (s : System) (before notes : List RunNote) (read : Variables) (view : StatusView) → before ≡ notes → CommandsCause (readings s.boot (names_of s.slots)) fin.empty before (Ok read) → TellsVars s read view → ViewCause s notes (Ok view)
+pub view_read : (s : Configuration) (before notes : List RunNote) (read : Variables) (view : StatusView) → before ≡ notes → CommandsCause (readings s.boot (names_of s.slots)) fin.empty before (Ok read) → TellsVars s read view → ViewCause s notes (Ok view)
 view_read s before notes read view are h tells =
     subst (λ (ns : List RunNote). ViewCause s ns (Ok view)) are (read, h, tells)
 

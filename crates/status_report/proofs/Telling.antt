@@ -17,13 +17,13 @@ use Rattle.slot_graph.specs.Booted.{states_of}
 use Rattle.status_file.specs.declared.reading.StatusRead.{StatusRead}
 use Rattle.status_file.specs.Status.{IsStored, book_in, is_unread, status_bytes}
 use Rattle.system_conf.specs.declared.slot.Slot.{Slot}
-use Rattle.system_conf.specs.declared.system.System.{System}
+use Rattle.system_conf.specs.Configuration.{Configuration}
 use Rattle.status_report.specs.declared.view.StatusView.{StatusView}
 use Rattle.status_report.specs.Views.{TellsBoot, TellsVars, TellsWorld, is_good}
 
 -- ---- the world
 
-module _ (s : System) (given : Option (List ℕ)) (w v : World) (view : StatusView) (stored : StatusRead) where
+module _ (s : Configuration) (given : Option (List ℕ)) (w v : World) (view : StatusView) (stored : StatusRead) where
   pub tells_world : view.booted ≡ what_runs s.slots given w → view.states ≡ states_of s.slots view.booted → v ≡ record w { runs = v.runs } → IsStored s v stored → view.book ≡ stored.book → view.book_unread ≡ stored.unread → TellsWorld s given w view
   tells_world booted states same is book unread =
       let there = ap (λ (u : World). status_bytes s u) same in
@@ -56,13 +56,13 @@ good_alike boot read vars all (s ∷ slots) alike =
     rest (Some other) name has = or_second (bytes_eq other name) (has_word (names_of slots) name) has
 
 -- what was read tells what the variables tell
-tells_alike : (s : System) (read vars : Variables) (view : StatusView) → TellsStates s.boot (names_of s.slots) vars read → TellsVars s read view → TellsVars s vars view
+tells_alike : (s : Configuration) (read vars : Variables) (view : StatusView) → TellsStates s.boot (names_of s.slots) vars read → TellsVars s read view → TellsVars s vars view
 tells_alike s read vars view states tells = record {
   primary = tells.primary ∙ ap (λ (name : Option (List ℕ)). option_and_then (λ n. position (has_boot_name n) s.slots) name) states.primary;
   good = tells.good ∙ good_alike s.boot read vars s.slots s.slots states.good;
 }
 
-pub tells_boot : (s : System) (a b c d : Past) (read : Variables) (view : StatusView) → world_now b ≡ world_now a → Grows a b → Grows b c → Grows c d → Grows b d → Told s.boot (names_of s.slots) b c read → TellsVars s read view → TellsBoot s a d view
+pub tells_boot : (s : Configuration) (a b c d : Past) (read : Variables) (view : StatusView) → world_now b ≡ world_now a → Grows a b → Grows b c → Grows c d → Grows b d → Told s.boot (names_of s.slots) b c read → TellsVars s read view → TellsBoot s a d view
 tells_boot s a b c d read view same ab bc cd bd told tells = λ honest.
     let later = (honest_splits s.boot a b d ab bd honest).1 in
     let here = (honest_splits s.boot b c d bc cd later).0 in

@@ -8,7 +8,7 @@ use Rattle.report_lines.specs.Lines.{line, line_if_any, numbered, setting, text_
 use Rattle.slot_status.specs.Records.{RecordContent, record_at}
 use Rattle.system_conf.specs.Slots.{word_of}
 use Rattle.system_conf.specs.declared.slot.Slot.{Slot}
-use Rattle.system_conf.specs.declared.system.System.{System}
+use Rattle.system_conf.specs.Configuration.{Configuration}
 use Rattle.updater_text.specs.declared.form.Form.{Form}
 use Rattle.updater_text.specs.declared.form.Form.TheVariants as form
 use Rattle.status_report.specs.Words.{boot_status_at, booted_word, name_at, numbers, parent_name, shown_at, state_at, time_word}
@@ -38,7 +38,7 @@ device_lines s =
     line (codes "slot ") s.name ++ (line (codes "  device: ") s.device ++ line (codes "  type: ") (word_of s.kind))
 
 -- whether it runs and may be booted, and the slot that it belongs to
-unfoldable pub state_lines : System → StatusView → ℕ × Slot → Text
+unfoldable pub state_lines : Configuration → StatusView → ℕ × Slot → Text
 state_lines s v p =
     line (codes "  state: ") (state_at v p.0)
     ++ (line_if_any (codes "  bootname: ") p.1.bootname
@@ -46,17 +46,17 @@ state_lines s v p =
     ++ line_if_any (codes "  parent: ") (parent_name s.slots p.1)))
 
 -- a slot, by its place
-unfoldable pub slot_lines : System → StatusView → Bool → ℕ × Slot → Text
+unfoldable pub slot_lines : Configuration → StatusView → Bool → ℕ × Slot → Text
 slot_lines s v detailed p =
     device_lines p.1 ++ (state_lines s v p ++ text_if detailed (record_lines (record_at v.book p.0)))
 
-unfoldable pub system_lines : System → StatusView → Text
+unfoldable pub system_lines : Configuration → StatusView → Text
 system_lines s v =
     line (codes "compatible: ") s.compatible
     ++ (line (codes "booted: ") (booted_word (shown_at s.slots) v.booted)
     ++ line (codes "primary: ") (option_map_or (shown_at s.slots) v.primary (codes "none")))
 
-unfoldable pub readable : System → StatusView → Bool → Text
+unfoldable pub readable : Configuration → StatusView → Bool → Text
 readable s v detailed = system_lines s v ++ flat_map (slot_lines s v detailed) (enumerate_from 0 s.slots)
 
 -- ---- for a shell; what is not there is empty
@@ -68,29 +68,29 @@ device_settings v number p =
     ++ (numbered (codes "RAUC_SLOT_STATE_") number (state_at v p.0)
     ++ numbered (codes "RAUC_SLOT_DEVICE_") number p.1.device)
 
-unfoldable pub boot_settings : System → StatusView → ℕ → ℕ × Slot → Text
+unfoldable pub boot_settings : Configuration → StatusView → ℕ → ℕ × Slot → Text
 boot_settings s v number p =
     numbered (codes "RAUC_SLOT_BOOTNAME_") number (unwrap_or p.1.bootname [])
     ++ (numbered (codes "RAUC_SLOT_PARENT_") number (unwrap_or (parent_name s.slots p.1) [])
     ++ numbered (codes "RAUC_SLOT_BOOT_STATUS_") number (unwrap_or (boot_status_at v p.0) []))
 
 -- a slot, by its place; its number is one higher
-unfoldable pub slot_settings : System → StatusView → ℕ × Slot → Text
+unfoldable pub slot_settings : Configuration → StatusView → ℕ × Slot → Text
 slot_settings s v p = device_settings v (p.0 + 1) p ++ boot_settings s v (p.0 + 1) p
 
-unfoldable pub system_settings : System → StatusView → Text
+unfoldable pub system_settings : Configuration → StatusView → Text
 system_settings s v =
     setting (codes "RAUC_SYSTEM_COMPATIBLE") s.compatible
     ++ (setting (codes "RAUC_SYSTEM_BOOTED_SLOT") (booted_word (name_at s.slots) v.booted)
     ++ setting (codes "RAUC_BOOT_PRIMARY") (option_map_or (name_at s.slots) v.primary []))
 
-unfoldable pub shell : System → StatusView → Text
+unfoldable pub shell : Configuration → StatusView → Text
 shell s v =
     system_settings s v
     ++ (setting (codes "RAUC_SYSTEM_SLOTS") (numbers (length s.slots)) ++ flat_map (slot_settings s v) (enumerate_from 0 s.slots))
 
 -- ---- either
 
-abbrev pub status_text : System → StatusView → Form → Bool → Text
+abbrev pub status_text : Configuration → StatusView → Form → Bool → Text
 status_text s v form.Readable detailed = readable s v detailed
 status_text s v form.Shell detailed = shell s v

@@ -5,6 +5,7 @@ ghost use Rattle.hex.specs.Hex.{encode_lower};
 ghost use Rattle.report_lines.specs.Lines.{line, line_if_any, text_if};
 ghost use Rattle.slot_status.specs.Books.{record_content};
 ghost use Rattle.slot_status.specs.Records.{record_at};
+ghost use Rattle.system_conf.specs.Reads.{system_configuration};
 ghost use Rattle.status_report.specs.Texts as spec;
 ghost use Rattle.status_report.specs.Words.{booted_word, shown_at, shown_slot, time_word};
 
@@ -26,7 +27,7 @@ pub fn write_readable(
     view: &StatusView,
     detailed: bool,
 ) -> Result<(), NoMemory>
-    ensures { OnOk result (out.new.items ≡ out.old.items ++ spec.readable system.now view.now detailed) }
+    ensures { OnOk result (out.new.items ≡ out.old.items ++ spec.readable (system_configuration system.now) view.now detailed) }
 {
     write_system(alloc, out, system, view)?;
     write_slots(alloc, out, system, view, detailed)?;
@@ -41,7 +42,7 @@ fn write_system(
     system: &System,
     view: &StatusView,
 ) -> Result<(), NoMemory>
-    ensures { OnOk result (out.new.items ≡ out.old.items ++ spec.system_lines system.now view.now) }
+    ensures { OnOk result (out.new.items ≡ out.old.items ++ spec.system_lines (system_configuration system.now) view.now) }
 {
     let slots = system.slots.as_slice();
     write_line(out, "compatible: ", system.compatible.as_str())?;
@@ -120,7 +121,7 @@ fn write_slots(
     detailed: bool,
 ) -> Result<(), NoMemory>
     ensures { OnOk result
-        (out.new.items ≡ out.old.items ++ flat_map (spec.slot_lines system.now view.now detailed) (enumerate_from 0 system.now.slots)) }
+        (out.new.items ≡ out.old.items ++ flat_map (spec.slot_lines (system_configuration system.now) view.now detailed) (enumerate_from 0 system.now.slots)) }
 {
     let slots = system.slots.as_slice();
     let mut at = 0;
@@ -141,7 +142,7 @@ fn write_slot(
     at: usize,
     slot: &Slot,
 ) -> Result<(), NoMemory>
-    ensures { OnOk result (out.new.items ≡ out.old.items ++ spec.slot_lines system.now view.now detailed (at, slot.now)) }
+    ensures { OnOk result (out.new.items ≡ out.old.items ++ spec.slot_lines (system_configuration system.now) view.now detailed (at, slot.now)) }
 {
     write_device(out, slot)?;
     write_states(out, system, view, at, slot)?;
@@ -158,7 +159,7 @@ fn write_states(
     at: usize,
     slot: &Slot,
 ) -> Result<(), AllocError>
-    ensures { OnOk result (out.new.items ≡ out.old.items ++ spec.state_lines system.now view.now (at, slot.now)) }
+    ensures { OnOk result (out.new.items ≡ out.old.items ++ spec.state_lines (system_configuration system.now) view.now (at, slot.now)) }
 {
     let parent = parent_name(system.slots.as_slice(), slot.parent);
     write_line(out, "  state: ", state_at(view, at))?;

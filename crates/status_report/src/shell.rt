@@ -2,6 +2,7 @@ ghost use Rattle.std.specs.Prelude.{◌≡◌, ◌<◌, ◌^◌, ◌++◌, [], I
 ghost use Rattle.std.specs.Option.{option_map_or};
 ghost use Rattle.std.specs.List.{enumerate_from, flat_map};
 ghost use Rattle.report_lines.specs.Lines.{setting};
+ghost use Rattle.system_conf.specs.Reads.{system_configuration};
 ghost use Rattle.status_report.specs.Texts as spec;
 ghost use Rattle.status_report.specs.Words as word;
 
@@ -21,7 +22,7 @@ pub fn write_shell(
     system: &System,
     view: &StatusView,
 ) -> Result<(), NoMemory>
-    ensures { OnOk result (out.new.items ≡ out.old.items ++ spec.shell system.now view.now) }
+    ensures { OnOk result (out.new.items ≡ out.old.items ++ spec.shell (system_configuration system.now) view.now) }
 {
     write_system(alloc, out, system, view)?;
     write_numbers(alloc, out, system)?;
@@ -37,7 +38,7 @@ fn write_system(
     system: &System,
     view: &StatusView,
 ) -> Result<(), NoMemory>
-    ensures { OnOk result (out.new.items ≡ out.old.items ++ spec.system_settings system.now view.now) }
+    ensures { OnOk result (out.new.items ≡ out.old.items ++ spec.system_settings (system_configuration system.now) view.now) }
 {
     let slots = system.slots.as_slice();
     let booted = booted_name(slots, view.booted);
@@ -113,7 +114,7 @@ fn write_slots(
     view: &StatusView,
 ) -> Result<(), NoMemory>
     ensures { OnOk result
-        (out.new.items ≡ out.old.items ++ flat_map (spec.slot_settings system.now view.now) (enumerate_from 0 system.now.slots)) }
+        (out.new.items ≡ out.old.items ++ flat_map (spec.slot_settings (system_configuration system.now) view.now) (enumerate_from 0 system.now.slots)) }
 {
     let slots = system.slots.as_slice();
     let mut at = 0;
@@ -134,7 +135,7 @@ fn write_slot(
     slot: &Slot,
 ) -> Result<(), NoMemory>
     requires { at < 2 ^ 63 }
-    ensures { OnOk result (out.new.items ≡ out.old.items ++ spec.slot_settings system.now view.now (at, slot.now)) }
+    ensures { OnOk result (out.new.items ≡ out.old.items ++ spec.slot_settings (system_configuration system.now) view.now (at, slot.now)) }
 {
     let number = at as u64 + 1;
     write_device(alloc, out, view, number, at, slot)?;
@@ -177,7 +178,7 @@ fn write_boot(
     at: usize,
     slot: &Slot,
 ) -> Result<(), NoMemory>
-    ensures { OnOk result (out.new.items ≡ out.old.items ++ spec.boot_settings system.now view.now number (at, slot.now)) }
+    ensures { OnOk result (out.new.items ≡ out.old.items ++ spec.boot_settings (system_configuration system.now) view.now number (at, slot.now)) }
 {
     let bootname = text_or_none(&slot.bootname);
     let parent = parent_or_none(system.slots.as_slice(), slot.parent);

@@ -1,4 +1,5 @@
 ghost use Rattle.std.specs.Prelude.{◌≡◌, IfOk};
+ghost use Rattle.system_conf.specs.Reads.{system_configuration};
 ghost use Rattle.status_report.specs.Texts as spec;
 
 use crate::StatusView;
@@ -17,7 +18,7 @@ pub fn status_text(
     form: Form,
     detailed: bool,
 ) -> Result<Vec<u8>, NoMemory>
-    ensures { IfOk result (λ text. text.items ≡ spec.status_text system.now view.now form detailed) }
+    ensures { IfOk result (λ text. text.items ≡ spec.status_text (system_configuration system.now) view.now form detailed) }
 {
     let mut text = Vec::new(alloc);
     match form {

@@ -4,6 +4,7 @@ ghost use Rattle.boot_backends.specs.Systems.{ReadsOnly};
 ghost use Rattle.machine.specs.Past.{Fails, world_now};
 ghost use Rattle.machine.specs.Stops.{StopCounted, stop_fault};
 ghost use Rattle.slot_graph.specs.Booted.{states_of};
+ghost use Rattle.system_conf.specs.Reads.{system_configuration};
 ghost use Rattle.status_report.specs.Views.{TellsBoot, TellsVars, TellsWorld, ViewEnds, are_good, is_good, read_stop};
 
 use boot_backends::{BootRefusal, read_vars, slot_in};
@@ -80,7 +81,7 @@ fn view_of(
     ensures states { IfOk result (λ view. view.states ≡ states_of system.now.slots booted) }
     ensures book { IfOk result (λ view. view.book ≡ stored.book) }
     ensures unread { IfOk result (λ view. view.book_unread ≡ stored.unread) }
-    ensures vars { IfOk result (TellsVars system.now vars.now) }
+    ensures vars { IfOk result (TellsVars (system_configuration system.now) vars.now) }
 {
     let names = system.boot_names(alloc)?;
     let states = states_told(alloc, system, booted)?;
@@ -115,11 +116,11 @@ pub fn status<M: Machine>(
     system: &System,
     given: Option<&str>,
 ) -> Result<StatusView, Stop<BootRefusal>>
-    ensures kept { IsTrue M.tells → ReadsOnly system.now (M.past m.old) (M.past m.new) }
+    ensures kept { IsTrue M.tells → ReadsOnly (system_configuration system.now) (M.past m.old) (M.past m.new) }
     ensures world { let name = option_map (λ name. name.now) given.entry in
-        IsTrue M.tells → IfOk result (TellsWorld system.now name (world_now (M.past m.old))) }
-    ensures boot { IsTrue M.tells → IfOk result (TellsBoot system.now (M.past m.old) (M.past m.new)) }
-    ensures causes { IsTrue M.tells → ViewEnds system.now (M.past m.old) (M.past m.new) result }
+        IsTrue M.tells → IfOk result (TellsWorld (system_configuration system.now) name (world_now (M.past m.old))) }
+    ensures boot { IsTrue M.tells → IfOk result (TellsBoot (system_configuration system.now) (M.past m.old) (M.past m.new)) }
+    ensures causes { IsTrue M.tells → ViewEnds (system_configuration system.now) (M.past m.old) (M.past m.new) result }
     ensures fails { Fails M.tells (M.past m.old) (M.past m.new) (stop_fault result) }
     ensures counts { StopCounted (M.faults m.old) (M.faults m.new) (M.wants m.old) (M.wants m.new) result }
 {

@@ -5,6 +5,7 @@ use Rattle.machine.proofs.Moments.{grows_trans}
 use Rattle.machine.specs.Past.{world_now}
 use Rattle.slot_graph.specs.Booted.{states_of}
 use Rattle.status_file.specs.declared.reading.StatusRead.{StatusRead}
+use Rattle.system_conf.specs.Reads.{system_configuration}
 use Rattle.status_report.proofs.Joining.{fails_read, kept_before, kept_behind, now_read, runs_before, runs_behind, view_read, view_stopped}
 use Rattle.status_report.proofs.Telling.{tells_boot, tells_world}
 use Rattle.status_report.proofs.view.status.Goals as goal
@@ -14,7 +15,7 @@ returns-in-Err-read_vars-clause-kept g c = λ told. kept_before _ told _ _ _ _ _
 
 pub returns-in-Err-read_vars-clause-causes : goal.returns-in-Err-read_vars-clause-causes
 returns-in-Err-read_vars-clause-causes g c = λ told.
-    view_stopped c.args.system.now _ _ c.in-Err-read_vars.stop (runs_before _ told _ _ _ _ _ (g.M.Machine.past c.read_vars.new.m) c.in-Ok.ensures.unchanged (c.in-Err-read_vars.ensures.kept told)) (c.in-Err-read_vars.ensures.causes told)
+    view_stopped (system_configuration c.args.system.now) _ _ c.in-Err-read_vars.stop (runs_before _ told _ _ _ _ _ (g.M.Machine.past c.read_vars.new.m) c.in-Ok.ensures.unchanged (c.in-Err-read_vars.ensures.kept told)) (c.in-Err-read_vars.ensures.causes told)
 
 pub returns-in-Err-read_vars-clause-fails : goal.returns-in-Err-read_vars-clause-fails
 returns-in-Err-read_vars-clause-fails g c = fails_join _ _ _ _ _ c.in-Ok.ensures.fails c.in-Err-read_vars.ensures.fails
@@ -32,7 +33,7 @@ returns-in-Ok-view_of-clause-kept g c = λ told. kept_behind _ told _ _ _ _ _ _ 
 
 pub returns-in-Ok-view_of-clause-world : goal.returns-in-Ok-view_of-clause-world
 returns-in-Ok-view_of-clause-world g c = λ told.
-    tells_world c.args.system.now _ _ (world_now (g.M.Machine.past c.read_vars.new.m)) c.in-Ok-view_of.view c.in-Ok-stored_status.stored
+    tells_world (system_configuration c.args.system.now) _ _ (world_now (g.M.Machine.past c.read_vars.new.m)) c.in-Ok-view_of.view c.in-Ok-stored_status.stored
     (c.in-Ok-view_of.ensures.booted ∙ c.in-Ok.ensures.answers told)
     (c.in-Ok-view_of.ensures.states ∙ ap (states_of c.args.system.now.slots) (sym c.in-Ok-view_of.ensures.booted))
     (now_read _ told _ _ _ _ _ (g.M.Machine.past c.stored_status.new.m) c.in-Ok.ensures.unchanged (c.in-Ok-read_vars.ensures.kept told))
@@ -43,11 +44,11 @@ returns-in-Ok-view_of-clause-boot g c = λ told.
     let first = (c.in-Ok.ensures.unchanged.all told).grows in
     let second = (c.in-Ok-read_vars.ensures.kept told).grows in
     let third = (c.in-Ok-stored_status.ensures.unchanged.all told).grows in
-    tells_boot c.args.system.now _ _ _ _ c.in-Ok-read_vars.vars c.in-Ok-view_of.view (now_unchanged _ _ _ c.in-Ok.ensures.unchanged told) first second third (grows_trans _ _ _ second third) (c.in-Ok-read_vars.ensures.tells told) c.in-Ok-view_of.ensures.vars
+    tells_boot (system_configuration c.args.system.now) _ _ _ _ c.in-Ok-read_vars.vars c.in-Ok-view_of.view (now_unchanged _ _ _ c.in-Ok.ensures.unchanged told) first second third (grows_trans _ _ _ second third) (c.in-Ok-read_vars.ensures.tells told) c.in-Ok-view_of.ensures.vars
 
 pub returns-in-Ok-view_of-clause-causes : goal.returns-in-Ok-view_of-clause-causes
 returns-in-Ok-view_of-clause-causes g c = λ told.
-    view_read c.args.system.now _ _ c.in-Ok-read_vars.vars c.in-Ok-view_of.view
+    view_read (system_configuration c.args.system.now) _ _ c.in-Ok-read_vars.vars c.in-Ok-view_of.view
     (runs_behind _ told _ _ _ _ _ _ c.in-Ok.ensures.unchanged (c.in-Ok-read_vars.ensures.kept told) c.in-Ok-stored_status.ensures.unchanged) (c.in-Ok-read_vars.ensures.causes told) c.in-Ok-view_of.ensures.vars
 
 pub returns-in-Ok-view_of-clause-fails : goal.returns-in-Ok-view_of-clause-fails
