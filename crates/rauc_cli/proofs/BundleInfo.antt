@@ -1,5 +1,5 @@
 -- Info is carried out.
-use Rattle.std.proofs.Common.{◌≡◌, ℕ, Bool, cond, List, [], Option, None, Result, Ok, Err, IsTrue, IfOk, refl, sym, ◌∙◌, ap}
+use Rattle.std.proofs.Common.{◌≡◌, ℕ, Bool, cond, List, [], Option, None, Result, Ok, Err, IsTrue, IfOk, refl, sym, ◌∙◌, ap, subst}
 use Rattle.std.proofs.lemmas.List.{append-nil}
 use Rattle.std.specs.List.{last_or}
 use Rattle.updater_text.specs.declared.form.Form.{Form}
@@ -27,7 +27,7 @@ use Rattle.mark_report.specs.Opening.{TellsInfo, info_by, info_children, info_in
 use Rattle.mark_report.specs.declared.bundle_info.InfoRefusal.{InfoRefusal}
 use Rattle.rauc_cli.specs.declared.outcome.Report.{Report}
 use Rattle.rauc_cli.specs.Lines.{closing_warnings, fault_report, info_report}
-use Rattle.rauc_cli.specs.Plans.{Plan, info_plan, planned_report, report_of}
+use Rattle.rauc_cli.specs.Plans.{Plan, IsPlanned, ReportsBy, info_plan}
 use Rattle.rauc_cli.specs.Ends.{Ended, SaysInfo}
 use Rattle.rauc_cli.proofs.Ending.{IsQuietSince, ended_memory}
 
@@ -80,21 +80,20 @@ module _ (t : Bool) (form : Form) (system : Configuration) (bundle : List ℕ) (
   abbrev fault : Option Fault
   fault = first_failed_but (is_run_of (umount_child system)) (moments_since a b)
 
-  reports : (answer : Result Manifest (Stop InfoRefusal)) (closed : Closing) (report : Report) → TellsInfo (info_in system a b) answer → fault ≡ stop_fault answer → closed ≡ closing_in (umount_child system) a b → SaysInfo form answer closed (Ok report) → report ≡ planned_report plan a b
+  reports : (answer : Result Manifest (Stop InfoRefusal)) (closed : Closing) (report : Report) → TellsInfo (info_in system a b) answer → fault ≡ stop_fault answer → closed ≡ closing_in (umount_child system) a b → SaysInfo form answer closed (Ok report) → IsPlanned plan a b report
   reports (Ok manifest) closed report tells fails closes says =
-      says
+      subst (λ (o : Option Fault). ReportsBy plan o report) (sym fails)
+      (says
       ∙ sym (ap (λ (o : Option (Result Content InfoRefusal)). info_report form closed o) tells)
-      ∙ ap (λ (x : Closing). info_report form x (info_in system a b)) closes
-      ∙ sym (ap (λ (o : Option Fault). report_of plan o) fails)
+      ∙ ap (λ (x : Closing). info_report form x (info_in system a b)) closes)
   reports (Err (stop.Refused refusal)) closed report tells fails closes says =
-      says
+      subst (λ (o : Option Fault). ReportsBy plan o report) (sym fails)
+      (says
       ∙ sym (ap (λ (o : Option (Result Content InfoRefusal)). info_report form closed o) tells)
-      ∙ ap (λ (x : Closing). info_report form x (info_in system a b)) closes
-      ∙ sym (ap (λ (o : Option Fault). report_of plan o) fails)
+      ∙ ap (λ (x : Closing). info_report form x (info_in system a b)) closes)
   reports (Err (stop.Outside kind)) closed report tells fails closes says =
-      says
-      ∙ ap (λ (x : Closing). fault_report [] (closing_warnings x) kind) closes
-      ∙ sym (ap (λ (o : Option Fault). report_of plan o) fails)
+      subst (λ (o : Option Fault). ReportsBy plan o report) (sym fails)
+      (says ∙ ap (λ (x : Closing). fault_report [] (closing_warnings x) kind) closes)
   reports (Err stop.NoMemory) closed report tells fails closes says = absurd says
 
   pub ended_info : (answer : Result Manifest (Stop InfoRefusal)) (closed : Closing) (result : Result Report NoMemory) → OnlyRuns t (helper_spares system []) (info_children system bundle) a b

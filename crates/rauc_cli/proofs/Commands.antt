@@ -1,5 +1,5 @@
 -- Each command, and what comes before it.
-use Rattle.std.proofs.Common.{◌≡◌, ◌≤◌, ℕ, Bool, List, Option, Some, None, Result, Ok, Err, IsTrue, IfOk, refl, sym, ◌∙◌, ap, subst, arith}
+use Rattle.std.proofs.Common.{◌≡◌, ◌≤◌, ℕ, ℤ, Bool, List, Option, Some, None, Result, Ok, Err, IsTrue, IfOk, refl, sym, ◌∙◌, ap, subst, arith}
 use Rattle.updater_text.specs.declared.stops.NoMemory.{NoMemory}
 use Rattle.machine.specs.declared.stops.Fault.{Fault}
 use Rattle.machine.specs.declared.stops.Stop.{Stop}
@@ -8,14 +8,19 @@ use Rattle.machine.specs.declared.world.World.{World}
 use Rattle.machine.specs.Past.{Past, Always, Fails, Grows, moments_since, world_now}
 use Rattle.machine.specs.Frames.{Unchanged}
 use Rattle.machine.specs.Runs.{ReadsOnce}
-use Rattle.machine.proofs.CallsMade.{once_now}
+use Rattle.machine.proofs.CallsMade.{once_grows, once_now}
 use Rattle.machine.proofs.Moments.{always_now, always_weaker}
 use Rattle.child_steps.specs.declared.close.Closing.TheVariants as closing
 use Rattle.rauc_words.specs.declared.asked.Asked.TheVariants as asked
 use Rattle.rauc_words.specs.declared.asked.Command.{Command}
-use Rattle.rauc_words.specs.declared.asked.Command.TheVariants.{WriteSlot, Info}
+use Rattle.rauc_words.specs.declared.asked.Command.TheVariants.{WriteSlot, Info, Status, Mark}
 use Rattle.rauc_words.specs.declared.asked.Run.{Run}
-use Rattle.rauc_words.specs.Table.{conf_path}
+use Rattle.rauc_words.specs.Table.{conf_path, slot_word}
+use Rattle.boot_model.specs.declared.boot_kind.BootKind.{BootKind}
+use Rattle.slot_marks.specs.declared.refusal.MarkRefusal.{MarkRefusal}
+use Rattle.slot_marks.specs.Marking.{choice}
+use Rattle.status_file.specs.Clock.{clock_since}
+use Rattle.status_file.proofs.Clocks.{clock_after, clock_once}
 use Rattle.system_conf.specs.Configuration.{Configuration}
 use Rattle.system_conf.specs.declared.slot.Slot.{Slot}
 use Rattle.slot_writer.specs.declared.refusal.SlotRefusal.{SlotRefusal}
@@ -27,10 +32,10 @@ use Rattle.rauc_cli.specs.declared.outcome.Outcome.{Outcome}
 use Rattle.rauc_cli.specs.declared.outcome.Outcome.TheVariants as end
 use Rattle.rauc_cli.specs.declared.outcome.Report.{Report}
 use Rattle.rauc_cli.specs.Conf.{system_at}
-use Rattle.rauc_cli.specs.Lines.{no_system_report, outside}
-use Rattle.rauc_cli.specs.Plans.{Plan, Nothing, AtTheEnd, OnTheWay, asked_plan, command_plan, fault_in, report_of, slot_plan, system_plan, to_report}
-use Rattle.rauc_cli.specs.Ends.{CommandTexts, Ended, HasTexts, InfoTexts, OutcomeCounted, RunTexts, SaysSlot, SlotTexts}
-use Rattle.rauc_cli.proofs.Ending.{IsQuiet, IsQuietSince, ended_after, ended_failed, ended_here, ended_memory, quiet_report, quiet_since, report_quiet, some_none, ways_unchanged}
+use Rattle.rauc_cli.specs.Lines.{no_system_report, outside, slot_report}
+use Rattle.rauc_cli.specs.Plans.{Plan, Nothing, AtTheEnd, OnTheWay, asked_plan, command_plan, mark_plan, slot_plan, status_plan, system_plan, to_report}
+use Rattle.rauc_cli.specs.Ends.{CommandTexts, Ended, HasTexts, InfoTexts, MarkTexts, OutcomeCounted, RunTexts, Says, SlotTexts, StatusTexts}
+use Rattle.rauc_cli.proofs.Ending.{IsQuiet, IsQuietSince, Meets, ended_after, ended_failed, ended_here, ended_memory, ended_said, quiet_report, quiet_since, ways_unchanged}
 use Rattle.rauc_cli.proofs.BundleInfo.{info_later, quiet_info}
 
 -- ---- write-slot
@@ -44,36 +49,29 @@ slot_way slots slot image (Ok written) w u h = h
 slot_way slots slot image (Err refusal) w u h = h
 
 module _ (t : Bool) (slots : List Slot) (slot image : List ℕ) (answer : Result SlotWritten SlotRefusal) (a b : Past) where
-  abbrev aim : Plan
-  aim = slot_plan slots slot image answer
+  abbrev aim : Result SlotWritten SlotRefusal → Plan
+  aim r = slot_plan slots slot image r
 
   abbrev way : World → Type 0
   way = PutKept (slot_device slots slot) answer (world_now a)
 
-  keeps : (IsTrue t → Always a b way) → IsTrue t → Always a b (OnTheWay aim.effect (world_now a))
-  keeps kept told = always_weaker a b way (OnTheWay aim.effect (world_now a)) (λ u h. slot_way slots slot image answer (world_now a) u h) (kept told)
+  keeps : (IsTrue t → Always a b way) → IsTrue t → Always a b (OnTheWay (aim answer).effect (world_now a))
+  keeps kept told = always_weaker a b way (OnTheWay (aim answer).effect (world_now a)) (λ u h. slot_way slots slot image answer (world_now a) u h) (kept told)
 
-  fault : (kind : Option Fault) → Fails t a b kind → IsTrue t → fault_in aim a b ≡ kind
-  fault kind fails told = (quiet_slot slots slot image answer).passes (moments_since a b) ∙ fails.first told
+  abbrev Slots : Plan → Result SlotWritten (Stop SlotRefusal) → Type 0
+  Slots p written = Meets p (AtTheEnd p.effect (world_now a) (world_now b)) (slot_report slots slot image) written
 
-  pub ended_slot : (written : Result SlotWritten (Stop SlotRefusal)) (result : Result Report NoMemory) → Puts t image (slot_device slots slot) answer a b written → SaysSlot slots slot image written result → Ended t (slot_plan slots slot image answer) a b result
-  ended_slot (Ok written) (Ok report) puts says = record {
-    on_the_way = keeps puts.kept;
-    reported = λ told. says ∙ sym (ap (λ (r : Result SlotWritten SlotRefusal). report_of (slot_plan slots slot image r) None) (puts.answers told)) ∙ sym (ap (λ (o : Option Fault). report_of aim o) (fault None puts.fails told));
-    at_the_end = λ told none. subst (λ (r : Result SlotWritten SlotRefusal). AtTheEnd (slot_plan slots slot image r).effect (world_now a) (world_now b)) (sym (puts.answers told)) (puts.left told);
-  }
-  ended_slot (Err (stop.Refused refusal)) (Ok report) puts says = record {
-    on_the_way = keeps puts.kept;
-    reported = λ told. says ∙ sym (ap (λ (r : Result SlotWritten SlotRefusal). report_of (slot_plan slots slot image r) None) (puts.answers told)) ∙ sym (ap (λ (o : Option Fault). report_of aim o) (fault None puts.fails told));
-    at_the_end = λ told none. subst (λ (r : Result SlotWritten SlotRefusal). AtTheEnd (slot_plan slots slot image r).effect (world_now a) (world_now b)) (sym (puts.answers told)) (subst (λ (r : Result SlotWritten SlotRefusal). PutKept (slot_device slots slot) r (world_now a) (world_now b)) (puts.answers told) (always_now a b way (puts.kept told)));
-  }
-  ended_slot (Err (stop.Outside kind)) (Ok report) puts says = record {
-    on_the_way = keeps puts.kept;
-    reported = λ told. says ∙ sym (report_quiet aim kind (quiet_slot slots slot image answer).notes (quiet_slot slots slot image answer).warnings) ∙ sym (ap (λ (o : Option Fault). report_of aim o) (fault (Some kind) puts.fails told));
-    at_the_end = λ told none. absurd (some_none kind (sym (fault (Some kind) puts.fails told) ∙ none));
-  }
-  ended_slot (Err stop.NoMemory) (Ok report) puts says = absurd says
-  ended_slot written (Err memory) puts says = ended_memory t aim a b memory (keeps puts.kept)
+  meets : (written : Result SlotWritten (Stop SlotRefusal)) → Puts t image (slot_device slots slot) answer a b written → IsTrue t → Slots (aim answer) written
+  meets (Ok written) puts told = subst (λ (r : Result SlotWritten SlotRefusal). Slots (aim r) (Ok written)) (sym (puts.answers told)) (refl, puts.left told)
+  meets (Err (stop.Refused refusal)) puts told =
+      subst (λ (r : Result SlotWritten SlotRefusal). Slots (aim r) (Err (stop.Refused refusal))) (sym (puts.answers told))
+      (refl, subst (λ (r : Result SlotWritten SlotRefusal). PutKept (slot_device slots slot) r (world_now a) (world_now b)) (puts.answers told) (always_now a b way (puts.kept told)))
+  meets (Err (stop.Outside kind)) puts told = tt
+  meets (Err stop.NoMemory) puts told = tt
+
+  pub ended_slot : (written : Result SlotWritten (Stop SlotRefusal)) (result : Result Report NoMemory) → Puts t image (slot_device slots slot) answer a b written → Says (slot_report slots slot image) written result → Ended t (slot_plan slots slot image answer) a b result
+  ended_slot written result puts says =
+      ended_said t (aim answer) (quiet_slot slots slot image answer) a b (slot_report slots slot image) (keeps puts.kept) written result puts.fails (meets written puts) says
 
 -- ---- each command
 
@@ -83,6 +81,10 @@ quiet_command path a b system given (WriteSlot slot image) once =
     let answer = slot_answer system.slots given slot image (world_now a) in
     quiet_since (slot_plan system.slots slot image answer) a b (quiet_slot system.slots slot image answer)
 quiet_command path a b system given (Info bundle form) once = quiet_info form system bundle path a b b once
+quiet_command path a b system given (Status form detailed) once =
+    quiet_since (status_plan form detailed system given (world_now a) (world_now b)) a b (quiet_report _ _)
+quiet_command path a b system given (Mark act who) once =
+    quiet_since (command_plan a b system given (Mark act who)) a b (quiet_report _ _)
 
 quiet_system : (path : List ℕ) (a b : Past) (run : Run) (found : Result Configuration NoSystem) → ReadsOnce path a b → IsQuietSince (system_plan a b run found) a b
 quiet_system path a b run (Ok system) once = quiet_command path a b system run.place.given run.command once
@@ -94,6 +96,14 @@ command_later : (path : List ℕ) (a b c : Past) (system : Configuration) (given
 command_later path a b c system given (WriteSlot slot image) once bc =
     ap (λ (w : World). slot_plan system.slots slot image (slot_answer system.slots given slot image w)) (once_now path a b once)
 command_later path a b c system given (Info bundle form) once bc = info_later form system bundle path a b c once bc
+command_later path a b c system given (Status form detailed) once bc =
+    ap (λ (w : World). status_plan form detailed system given w (world_now c)) (once_now path a b once)
+command_later path a b c system given (Mark act who) once bc =
+    let ab = once_grows path a b once in
+    let chosen : World → Result ℕ MarkRefusal = λ w. choice system.slots given (slot_word who) w in
+    ap (λ (boot : BootKind). mark_plan boot system act (chosen (world_now b)) (clock_since b c) (world_now b) (world_now c)) (ap (λ (p : Past). p.boot) ab)
+    ∙ ap (λ (w : World). mark_plan a.boot system act (chosen w) (clock_since b c) w (world_now c)) (once_now path a b once)
+    ∙ ap (λ (o : Option ℤ). mark_plan a.boot system act (chosen (world_now a)) o (world_now a) (world_now c)) (sym (clock_after a b c (clock_once path a b once) ab bc))
 
 -- ---- the configuration of a command
 
@@ -127,14 +137,20 @@ module _ (t : Bool) (run : Run) (path : List ℕ) (is : path ≡ conf_path run.p
 no_conf : (command : Command) (r : Report) → CommandTexts command r → r.outcome ≡ end.NoConfig → ⊥
 no_conf (WriteSlot slot image) r h e = subst (λ (o : Outcome). SlotTexts slot image o r) e h
 no_conf (Info bundle form) r h e = subst (λ (o : Outcome). InfoTexts form o r) e h
+no_conf (Status form detailed) r h e = subst (λ (o : Outcome). StatusTexts form detailed o r) e h
+no_conf (Mark act who) r h e = subst (λ (o : Outcome). MarkTexts act (slot_word who) o r) e h
 
 no_bad_conf : (command : Command) (r : Report) (refusal : BadConf) → CommandTexts command r → r.outcome ≡ end.BadConfig refusal → ⊥
 no_bad_conf (WriteSlot slot image) r refusal h e = subst (λ (o : Outcome). SlotTexts slot image o r) e h
 no_bad_conf (Info bundle form) r refusal h e = subst (λ (o : Outcome). InfoTexts form o r) e h
+no_bad_conf (Status form detailed) r refusal h e = subst (λ (o : Outcome). StatusTexts form detailed o r) e h
+no_bad_conf (Mark act who) r refusal h e = subst (λ (o : Outcome). MarkTexts act (slot_word who) o r) e h
 
 outside_texts : (command : Command) (kind : Fault) → CommandTexts command (outside kind)
 outside_texts (WriteSlot slot image) kind = refl
 outside_texts (Info bundle form) kind = (closing.NotMounted, refl)
+outside_texts (Status form detailed) kind = refl
+outside_texts (Mark act who) kind = refl
 
 pub texts_outside : (run : Run) (kind : Fault) (result : Result Report NoMemory) → IfOk result (λ r. r ≡ outside kind) → IfOk result (HasTexts (Some (asked.Run run)))
 texts_outside run kind (Ok r) is = subst (λ (x : Report). HasTexts (Some (asked.Run run)) x) (sym is) (outside_texts run.command kind)
@@ -147,6 +163,8 @@ run_texts run r end.Usage e h = h
 run_texts run r end.NoConfig e h = absurd (no_conf run.command r h e)
 run_texts run r (end.BadConfig refusal) e h = absurd (no_bad_conf run.command r refusal h e)
 run_texts run r (end.Info refusal) e h = h
+run_texts run r (end.Mark refusal) e h = h
+run_texts run r (end.Boot refusal) e h = h
 run_texts run r (end.Slot refusal) e h = h
 run_texts run r (end.Outside kind) e h = h
 run_texts run r end.NoMemory e h = h
@@ -162,6 +180,8 @@ counted_later f g k m n p end.Usage fs ms h = (omega (arith, fs, h.0), omega (ar
 counted_later f g k m n p end.NoConfig fs ms h = (omega (arith, fs, h.0), omega (arith, ms, h.1))
 counted_later f g k m n p (end.BadConfig refusal) fs ms h = (omega (arith, fs, h.0), omega (arith, ms, h.1))
 counted_later f g k m n p (end.Info refusal) fs ms h = (omega (arith, fs, h.0), omega (arith, ms, h.1))
+counted_later f g k m n p (end.Mark refusal) fs ms h = (omega (arith, fs, h.0), omega (arith, ms, h.1))
+counted_later f g k m n p (end.Boot refusal) fs ms h = (omega (arith, fs, h.0), omega (arith, ms, h.1))
 counted_later f g k m n p (end.Slot refusal) fs ms h = (omega (arith, fs, h.0), omega (arith, ms, h.1))
 counted_later f g k m n p (end.Outside kind) fs ms h =
     ((omega (arith, fs, h.0.0), λ same. omega (arith, fs, h.0.0, h.0.1 (omega (arith, fs, h.0.0, same)))), omega (arith, ms, h.1))

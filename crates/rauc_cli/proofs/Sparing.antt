@@ -1,5 +1,5 @@
 -- What runs is not written by any plan.
-use Rattle.std.proofs.Common.{◌≡◌, ◌||◌, ℕ, zero, suc, Bool, true, false, List, [], ◌∷◌, map, Option, Some, None, Result, Ok, Err, IsTrue, refl, sym, ◌∙◌, ap, subst, slice_get}
+use Rattle.std.proofs.Common.{◌≡◌, ◌||◌, inl, inr, ℕ, ℤ, zero, suc, Bool, true, false, List, [], ◌∷◌, map, Option, Some, None, Result, Ok, Err, IsTrue, refl, sym, ◌∙◌, ap, subst, slice_get}
 use Rattle.std.proofs.lemmas.Slice.Eq.{bytes_eq-Decides}
 use Rattle.std.specs.List.{list_any}
 use Rattle.std.specs.Prelude.{bytes_eq}
@@ -7,7 +7,8 @@ use Rattle.machine.specs.declared.world.Child.{Child}
 use Rattle.machine.specs.declared.world.Spares.{Spares}
 use Rattle.machine.specs.Spares.{has_disk}
 use Rattle.machine.specs.declared.world.World.{World}
-use Rattle.machine.specs.World.{file}
+use Rattle.machine.specs.Crash.{is_in}
+use Rattle.machine.specs.World.{disk_byte, file, with_file}
 use Rattle.machine.specs.Frames.{InRange}
 use Rattle.machine.specs.Past.{Past, Held, world_now}
 use Rattle.keyfile.specs.Groups.{Group}
@@ -20,11 +21,20 @@ use Rattle.system_conf.specs.Configuration.{Configuration, configuration}
 use Rattle.system_conf.specs.Refusals.{bad_slot_name, bad_value, first_refusal, left_out, missing, same_device, too_many, unknown_key, unless_refused}
 use Rattle.conf_forms.proofs.FirstOf.{both_none}
 use Rattle.slot_graph.specs.Booted.{state_of}
-use Rattle.rauc_words.specs.Table.{conf_path}
+use Rattle.rauc_words.specs.Table.{conf_path, slot_word}
+use Rattle.boot_model.specs.Vars.{Variables}
+use Rattle.boot_model.specs.declared.boot_kind.BootKind.{BootKind}
+use Rattle.boot_commands.specs.declared.command.Command.{Command as BootCommand}
+use Rattle.boot_backends.specs.Through.{StoppedThrough}
+use Rattle.slot_marks.specs.declared.naming.Action.{Action}
+use Rattle.slot_marks.specs.declared.refusal.MarkRefusal.{MarkRefusal}
+use Rattle.slot_marks.specs.Marking.{choice}
+use Rattle.slot_marks.specs.Noting.{new_text, noted_by}
+use Rattle.status_file.specs.Clock.{clock_since}
 use Rattle.rauc_words.specs.declared.asked.Asked.{Asked}
 use Rattle.rauc_words.specs.declared.asked.Asked.TheVariants as asked
 use Rattle.rauc_words.specs.declared.asked.Command.{Command}
-use Rattle.rauc_words.specs.declared.asked.Command.TheVariants.{WriteSlot, Info}
+use Rattle.rauc_words.specs.declared.asked.Command.TheVariants.{WriteSlot, Info, Status, Mark}
 use Rattle.rauc_words.specs.declared.asked.Run.{Run}
 use Rattle.slot_writer.specs.declared.refusal.SlotRefusal.{SlotRefusal}
 use Rattle.slot_writer.specs.declared.refusal.SlotWritten.{SlotWritten}
@@ -34,7 +44,7 @@ use Rattle.running_system.proofs.SlotsKept.{kept_but}
 use Rattle.slot_writer.proofs.Sparing.{not_written}
 use Rattle.rauc_cli.specs.Conf.{of_conf, of_file, of_groups, system_at, system_in}
 use Rattle.rauc_cli.specs.declared.conf.NoSystem.{NoSystem}
-use Rattle.rauc_cli.specs.Plans.{AfterAStop, Effect, Nothing, Front, Children, asked_plan, booted_for, command_plan, slot_plan, slots_by, slots_for, system_plan}
+use Rattle.rauc_cli.specs.Plans.{AfterAStop, Effect, From, Put, Nothing, Front, Children, Reading, Marking, asked_plan, booted_for, command_plan, mark_effect, marking_at, marking_with, slot_plan, slots_by, slots_for, system_plan}
 
 -- ---- the slots of a configuration have devices of their own
 
@@ -72,6 +82,36 @@ effect_device : Effect → List ℕ
 effect_device Nothing = []
 effect_device (Front image device written) = device
 effect_device (Children spares children) = []
+effect_device (Reading boot names) = []
+effect_device (Marking machine commands put) = []
+
+-- a mark writes no device, and runs no other children
+pub data IsMarking : Effect → Type 0 where
+  not_at_all : IsMarking Nothing
+  by_commands : (machine : BootKind) (commands : Variables → List BootCommand) (put : Option Put) → IsMarking (Marking machine commands put)
+
+with_text : (machine : BootKind) (system : Configuration) (at : ℕ) (path : List ℕ) (text : Option (List ℕ)) → IsMarking (marking_with machine system at path text)
+with_text machine system at path None = not_at_all
+with_text machine system at path (Some text) = by_commands _ _ _
+
+at_place : (machine : BootKind) (system : Configuration) (act : Action) (noted : Option (List ℕ)) (clock : Option ℤ) (w : World) (at : ℕ) → IsMarking (marking_at machine system act noted clock w at)
+at_place machine system act None clock w at = by_commands _ _ _
+at_place machine system act (Some path) clock w at = with_text machine system at path (new_text system.slots (file w path) at clock)
+
+pub by_choice : (machine : BootKind) (system : Configuration) (act : Action) (choice : Result ℕ MarkRefusal) (clock : Option ℤ) (w : World) → IsMarking (mark_effect machine system act choice clock w)
+by_choice machine system act (Ok at) clock w = at_place machine system act (noted_by system act) clock w at
+by_choice machine system act (Err why) clock w = not_at_all
+
+mark_changes : (a c : Past) (given : Option (List ℕ)) (system : Configuration) (act : Action) (who : Option (List ℕ)) → IsMarking (command_plan a c system given (Mark act who)).effect
+mark_changes a c given system act who = by_choice a.boot system act (choice system.slots given (slot_word who) (world_now a)) (clock_since a c) (world_now a)
+
+no_front : {e : Effect} {image device : List ℕ} {written : SlotWritten} → IsMarking e → e ≡ Front image device written → ⊥
+no_front not_at_all e = cc
+no_front (by_commands machine commands put) e = cc
+
+no_children : {e : Effect} {spares : Spares} {children : List Child} → IsMarking e → e ≡ Children spares children → ⊥
+no_children not_at_all e = cc
+no_children (by_commands machine commands put) e = cc
 
 module _ (a c : Past) (given : Option (List ℕ)) (image' device : List ℕ) (written : SlotWritten) (at : ℕ) (slot : Slot) (same : slot.device ≡ device) where
   abbrev IsBusyIn : List Slot → Type 0
@@ -88,6 +128,8 @@ module _ (a c : Past) (given : Option (List ℕ)) (image' device : List ℕ) (wr
 
   by_command : (system : Configuration) (command : Command) → same_device system.slots ≡ None → IsBusyIn system.slots → (command_plan a c system given command).effect ≡ front → ⊥
   by_command system (Info bundle form) alone busy e = let bad : ⊥ = cc in bad
+  by_command system (Status form detailed) alone busy e = let bad : ⊥ = cc in bad
+  by_command system (Mark act who) alone busy e = no_front (mark_changes a c given system act who) e
   by_command system (WriteSlot name image) alone busy e = by_answer system name image (slot_answer system.slots given name image (world_now a)) alone busy refl e
 
 by_system : (a c : Past) (run : Run) (image' device : List ℕ) (written : SlotWritten) (at : ℕ) (slot : Slot) → slot.device ≡ device → (r : Result Configuration NoSystem) → ((system : Configuration) → r ≡ Ok system → same_device system.slots ≡ None)
@@ -109,6 +151,8 @@ effect_spares : Effect → Spares
 effect_spares Nothing = record { disks = []; files = []; boot = false }
 effect_spares (Front image device written) = record { disks = []; files = []; boot = false }
 effect_spares (Children spares children) = spares
+effect_spares (Reading boot names) = record { disks = []; files = []; boot = false }
+effect_spares (Marking machine commands put) = record { disks = []; files = []; boot = false }
 
 has_device : (slots : List Slot) (at : ℕ) (slot : Slot) → slice_get slots at ≡ Some slot → list_any (λ p. bytes_eq p slot.device) (map (λ (s : Slot). s.device) slots) ≡ true
 has_device [] at slot e = absurd (cc)
@@ -131,6 +175,8 @@ module _ (a c : Past) (spares : Spares) (children : List Child) (at : ℕ) (slot
   command_spares given system (WriteSlot name image) e there = absurd (answer_spares system.slots name image (slot_answer system.slots given name image (world_now a)) e)
   command_spares given system (Info bundle form) e there =
       subst (λ (s : Spares). IsTrue (has_disk s slot.device)) (ap effect_spares e) (has_device system.slots at slot there)
+  command_spares given system (Status form detailed) e there = let bad : ⊥ = cc in absurd bad
+  command_spares given system (Mark act who) e there = absurd (no_children (mark_changes a c given system act who) e)
 
   system_spares : (run : Run) (r : Result Configuration NoSystem) → (system_plan a c run r).effect ≡ Children spares children → slice_get (slots_by r) at ≡ Some slot → IsTrue (has_disk spares slot.device)
   system_spares run (Ok system) e there = command_spares run.place.given system run.command e there
@@ -143,6 +189,7 @@ module _ (a c : Past) (spares : Spares) (children : List Child) (at : ℕ) (slot
 
 -- so what runs keeps its bytes
 pub running_planned : (t : Bool) (asked : Option Asked) (a c : Past) → (IsTrue t → (v : World) → Held a c v → AfterAStop (asked_plan a c asked).effect (world_now a) v) → RunningKept t (slots_for asked (world_now a)) (booted_for asked (world_now a)) a c
+unfolding with_file
 running_planned t asked a c left = by (asked_plan a c asked).effect refl left
   where
     by : (e : Effect) → (asked_plan a c asked).effect ≡ e → (IsTrue t → (v : World) → Held a c v → AfterAStop e (world_now a) v) → RunningKept t (slots_for asked (world_now a)) (booted_for asked (world_now a)) a c
@@ -152,5 +199,21 @@ running_planned t asked a c left = by (asked_plan a c asked).effect refl left
     by (Children spares children) is left = record {
       each = λ told v held at slot there used i settled. (left told v held).bytes slot.device (asked_spares a c spares children at slot asked is there) i settled;
     }
+    by (Reading boot names) is left = record {
+      each = λ told v held at slot there used i settled.
+          let stopped = left told v held in
+          stopped.2.bytes slot.device i (λ touched. touched) (ap (λ (x : World). is_in x.pending slot.device i) stopped.1.rest ∙ settled)
+          ∙ ap (λ (x : World). disk_byte x slot.device i) stopped.1.rest;
+    }
+    by (Marking machine commands None) is left = record {
+      each = λ told v held at slot there used i settled. (left told v held).1.bytes slot.device i settled;
+    }
+    by (Marking machine commands (Some put)) is left = record {
+      each = λ told v held at slot there used i settled. either (commands (left told v held).0) v slot i settled (left told v held).1;
+    }
+      where
+        either : (cs : List BootCommand) (v : World) (slot : Slot) (i : ℕ) → is_in (world_now a).pending slot.device i ≡ false → From (Some put) (world_now a) (λ x. StoppedThrough machine cs x v) → disk_byte v slot.device i ≡ disk_byte (world_now a) slot.device i
+        either cs v slot i settled (inl before) = before.bytes slot.device i settled
+        either cs v slot i settled (inr with) = with.bytes slot.device i settled
     by Nothing is left =
         kept_but t (slots_for asked (world_now a)) (booted_for asked (world_now a)) a c (λ path i. ⊥) (λ at slot there used i touched. touched) left

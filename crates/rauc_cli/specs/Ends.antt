@@ -8,13 +8,18 @@ use Rattle.machine.specs.declared.stops.Stop.{Stop}
 use Rattle.machine.specs.declared.stops.Stop.TheVariants as stop
 use Rattle.machine.specs.declared.world.World.{World}
 use Rattle.machine.specs.Past.{Past, Always, Held, world_now}
-use Rattle.rauc_words.specs.Table.{command_of, conf_path}
+use Rattle.rauc_words.specs.Table.{command_of, conf_path, slot_word}
 use Rattle.rauc_words.specs.declared.asked.Asked.{Asked}
 use Rattle.rauc_words.specs.declared.asked.Asked.TheVariants as asked
 use Rattle.rauc_words.specs.declared.asked.Command.{Command}
-use Rattle.rauc_words.specs.declared.asked.Command.TheVariants.{WriteSlot, Info}
+use Rattle.rauc_words.specs.declared.asked.Command.TheVariants.{WriteSlot, Info, Status, Mark}
 use Rattle.rauc_words.specs.declared.asked.Run.{Run}
+use Rattle.system_conf.specs.Configuration.{Configuration}
 use Rattle.system_conf.specs.declared.slot.Slot.{Slot}
+use Rattle.slot_marks.specs.declared.naming.Action.{Action}
+use Rattle.slot_marks.specs.declared.naming.Marked.{Marked}
+use Rattle.slot_marks.specs.Answers.{MarkedFor}
+use Rattle.status_report.specs.declared.view.StatusView.{StatusView}
 use Rattle.updater_text.specs.declared.form.Form.{Form}
 use Rattle.manifest.specs.Contents.{Content}
 use Rattle.manifest.specs.Reads.{manifest_content}
@@ -32,8 +37,8 @@ use Rattle.rauc_cli.specs.declared.outcome.Outcome.{Outcome}
 use Rattle.rauc_cli.specs.declared.outcome.Outcome.TheVariants as end
 use Rattle.rauc_cli.specs.declared.outcome.Report.{Report}
 use Rattle.rauc_cli.specs.declared.outcome.Finish.{Finish}
-use Rattle.rauc_cli.specs.Lines.{closing_warnings, fault_report, help_report, info_refusal_report, memory_report, no_system_report, outside, slot_refusal_report, told_report, usage_report, written_report}
-use Rattle.rauc_cli.specs.Plans.{Plan, AfterAStop, AtTheEnd, OnTheWay, booted_for, fault_in, plan_of, planned_report, slots_for}
+use Rattle.rauc_cli.specs.Lines.{boot_refusal_report, closing_warnings, fault_report, help_report, info_refusal_report, mark_refusal_report, marked_report, memory_report, no_system_report, outside, slot_refusal_report, told_report, usage_report, view_report, written_report}
+use Rattle.rauc_cli.specs.Plans.{Plan, AfterAStop, AtTheEnd, IsPlanned, OnTheWay, booted_for, fault_in, plan_of, slots_for}
 
 -- ---- texts: told or not, a report's texts are those of its outcome
 
@@ -54,10 +59,26 @@ InfoTexts form (end.Info (Bundle refusal)) report =
 InfoTexts form (end.Outside kind) report = (closed : Closing) × (report ≡ fault_report [] (closing_warnings closed) kind)
 InfoTexts form outcome report = ⊥
 
+-- status, by the outcome
+abbrev pub StatusTexts : Form → Bool → Outcome → Report → Type 0
+StatusTexts form detailed end.Done report = (system : Configuration) × (view : StatusView) × (report ≡ view_report form detailed system view)
+StatusTexts form detailed (end.Boot why) report = report ≡ boot_refusal_report why
+StatusTexts form detailed (end.Outside kind) report = report ≡ outside kind
+StatusTexts form detailed outcome report = ⊥
+
+-- a mark, by the outcome; what is marked is such a slot as the word may name, and a refusal such a one as the word may have
+abbrev pub MarkTexts : Action → List ℕ → Outcome → Report → Type 0
+MarkTexts act who end.Done report = (slots : List Slot) × (marked : Marked) × MarkedFor slots act who (Ok marked) × (report ≡ marked_report marked)
+MarkTexts act who (end.Mark why) report = (slots : List Slot) × MarkedFor slots act who (Err (stop.Refused why)) × (report ≡ mark_refusal_report slots why)
+MarkTexts act who (end.Outside kind) report = report ≡ outside kind
+MarkTexts act who outcome report = ⊥
+
 -- each command
 abbrev pub CommandTexts : Command → Report → Type 0
 CommandTexts (WriteSlot slot image) report = SlotTexts slot image report.outcome report
 CommandTexts (Info bundle form) report = InfoTexts form report.outcome report
+CommandTexts (Status form detailed) report = StatusTexts form detailed report.outcome report
+CommandTexts (Mark act who) report = MarkTexts act (slot_word who) report.outcome report
 
 -- a command, or the lack of a system for it
 abbrev pub RunTexts : Run → Outcome → Report → Type 0
@@ -85,13 +106,13 @@ outcome_in (Err memory) = end.NoMemory
 
 -- ---- a command
 
--- what is reported of write-slot
-abbrev pub SaysSlot : List Slot → List ℕ → List ℕ → Result SlotWritten (Stop SlotRefusal) → Result Report NoMemory → Type 0
-SaysSlot slots slot image (Ok written) (Ok report) = report ≡ written_report slot written.size written.digest.0
-SaysSlot slots slot image (Err (stop.Refused refusal)) (Ok report) = report ≡ slot_refusal_report slots image refusal
-SaysSlot slots slot image (Err (stop.Outside kind)) (Ok report) = report ≡ outside kind
-SaysSlot slots slot image (Err stop.NoMemory) (Ok report) = ⊥
-SaysSlot slots slot image written (Err memory) = Unit {0}
+-- what is reported of a call by its answer
+abbrev pub Says : {A R : Type 0} → (Result A R → Report) → Result A (Stop R) → Result Report NoMemory → Type 0
+Says report_of (Ok a) (Ok report) = report ≡ report_of (Ok a)
+Says report_of (Err (stop.Refused why)) (Ok report) = report ≡ report_of (Err why)
+Says report_of (Err (stop.Outside kind)) (Ok report) = report ≡ outside kind
+Says report_of (Err stop.NoMemory) (Ok report) = ⊥
+Says report_of answer (Err memory) = Unit {0}
 
 -- what is reported of info
 abbrev pub SaysInfo : Form → Result Manifest (Stop InfoRefusal) → Closing → Result Report NoMemory → Type 0
@@ -104,18 +125,18 @@ SaysInfo form answer closed (Err memory) = Unit {0}
 -- a plan was carried out, with this report, or memory ran out
 pub record Ended (tells : Bool) (plan : Plan) (old new : Past) (result : Result Report NoMemory) : Type 0 where
   pub on_the_way : IsTrue tells → Always old new (OnTheWay plan.effect (world_now old))
-  pub reported : IsTrue tells → IfOk result (λ report. report ≡ planned_report plan old new)
+  pub reported : IsTrue tells → IfOk result (IsPlanned plan old new)
   pub at_the_end : IsTrue tells → IfOk result (λ report. fault_in plan old new ≡ None → AtTheEnd plan.effect (world_now old) (world_now new))
 
 -- ---- the program; a pair has what stands before the call and what stands after it
 
--- the outcome and what went to the two sinks are one report: its texts are those of its outcome, and where told it is the planned one, unless memory ran out
+-- the outcome and what went to the two sinks are one report: its texts are those of its outcome, and where told it is a planned one, unless memory ran out
 pub record Reports (tells : Bool) (words : List (List ℕ)) (past : Past × Past) (out err : Shown × Shown) (finish : Finish) : Type 0 where
   pub report : Report
   pub outcome : finish.outcome ≡ report.outcome
   pub put : WritesBoth out.0 out.1 err.0 err.1 report.out report.err finish.told
   pub texts : (report ≡ memory_report) ⊎ HasTexts (command_of words) report
-  pub planned : IsTrue tells → (report ≡ memory_report) ⊎ (report ≡ planned_report (plan_of words past.0 past.1) past.0 past.1)
+  pub planned : IsTrue tells → (report ≡ memory_report) ⊎ IsPlanned (plan_of words past.0 past.1) past.0 past.1 report
 
 -- where told: each world since, inside the calls too, is on the way of the plan, and where all was done the end is the plan's
 pub record CarriesOut (tells : Bool) (words : List (List ℕ)) (past : Past × Past) (outcome : Outcome) : Type 0 where
@@ -139,4 +160,4 @@ AsksFor None outcome = (outcome ≡ end.Usage) ⊎ (outcome ≡ end.NoMemory)
 pub record HasCause (tells : Bool) (words : List (List ℕ)) (past : Past × Past) (faults wants : ℕ × ℕ) (outcome : Outcome) : Type 0 where
   pub asked : AsksFor (command_of words) outcome
   pub counted : OutcomeCounted faults.0 faults.1 wants.0 wants.1 outcome
-  pub complete : IsTrue tells → (CountRose faults.0 faults.1 → ⊥) → (outcome ≡ end.NoMemory) ⊎ (outcome ≡ (plan_of words past.0 past.1).report.outcome)
+  pub complete : IsTrue tells → (CountRose faults.0 faults.1 → ⊥) → (outcome ≡ end.NoMemory) ⊎ ((report : Report) × (plan_of words past.0 past.1).Reports report × (outcome ≡ report.outcome))

@@ -19,6 +19,15 @@ use Rattle.rauc_cli.specs.declared.conf.NoSystem.TheVariants.{Missing, Bad}
 use Rattle.system_conf.specs.Causes.{conf_cause}
 use Rattle.slot_writer.specs.declared.refusal.SlotRefusal.{SlotRefusal}
 use Rattle.slot_writer.specs.Causes.{slot_cause}
+use Rattle.slot_writer.specs.declared.refusal.SlotWritten.{SlotWritten}
+use Rattle.boot_backends.specs.declared.refusal.BootRefusal.{BootRefusal}
+use Rattle.report_lines.specs.Lines.{text_if}
+use Rattle.slot_marks.specs.Causes.{boot_cause, mark_cause}
+use Rattle.slot_marks.specs.declared.naming.Marked.{Marked}
+use Rattle.slot_marks.specs.declared.refusal.MarkRefusal.{MarkRefusal}
+use Rattle.status_report.specs.Texts.{status_text}
+use Rattle.status_report.specs.declared.view.StatusView.{StatusView}
+use Rattle.system_conf.specs.Configuration.{Configuration}
 use Rattle.system_conf.specs.declared.slot.Slot.{Slot}
 use Rattle.rauc_cli.specs.declared.outcome.Outcome.{Outcome}
 use Rattle.rauc_cli.specs.declared.outcome.Outcome.TheVariants as end
@@ -131,3 +140,38 @@ no_system_report path refusal = error_report (system_outcome refusal) (system_ca
 -- a slot that is not written
 abbrev pub slot_refusal_report : List Slot → List ℕ → SlotRefusal → Report
 slot_refusal_report slots image refusal = error_report (end.Slot refusal) (slot_cause slots image refusal)
+
+-- what came of write-slot
+abbrev pub slot_report : List Slot → List ℕ → List ℕ → Result SlotWritten SlotRefusal → Report
+slot_report slots slot image (Ok written) = written_report slot written.size written.digest.0
+slot_report slots slot image (Err refusal) = slot_refusal_report slots image refusal
+
+-- ---- status, and marks
+
+-- the warning of a status file that cannot be read
+abbrev pub unread_warning : Bool → List ℕ
+unread_warning unread = text_if unread (codes "warning: status file unreadable\n")
+
+-- what is told of the slots
+abbrev pub view_report : Form → Bool → Configuration → StatusView → Report
+view_report form detailed system view = record { outcome = end.Done; out = status_text system view form detailed; err = unread_warning view.book_unread }
+
+-- the programs of the boot loader did not tell
+abbrev pub boot_refusal_report : BootRefusal → Report
+boot_refusal_report why = error_report (end.Boot why) (boot_cause why)
+
+abbrev pub status_report : Form → Bool → Configuration → Result StatusView BootRefusal → Report
+status_report form detailed system (Ok view) = view_report form detailed system view
+status_report form detailed system (Err why) = boot_refusal_report why
+
+-- a slot was marked
+abbrev pub marked_report : Marked → Report
+marked_report marked = record { outcome = end.Done; out = marked.line ++ codes "\n"; err = unread_warning marked.book_unread }
+
+-- or was not
+abbrev pub mark_refusal_report : List Slot → MarkRefusal → Report
+mark_refusal_report slots why = error_report (end.Mark why) (mark_cause slots why)
+
+abbrev pub mark_report : List Slot → Result Marked MarkRefusal → Report
+mark_report slots (Ok marked) = marked_report marked
+mark_report slots (Err why) = mark_refusal_report slots why

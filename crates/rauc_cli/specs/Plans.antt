@@ -1,22 +1,42 @@
 -- What a call of the program comes to, from its words and from the past since its start.
-use Rattle.std.specs.Prelude.{◌≡◌, ℕ, Bool, false, List, [], Option, Some, None, Result, Ok, Err}
+use Rattle.std.specs.Prelude.{◌≡◌, ◌⊎◌, ℕ, ℤ, Bool, false, List, [], Option, Some, None, Result, Ok, Err}
+use Rattle.boot_model.specs.Vars.{Variables}
+use Rattle.boot_model.specs.declared.boot_kind.BootKind.{BootKind}
+use Rattle.boot_commands.specs.declared.command.Command.{Command as BootCommand}
+use Rattle.boot_commands.specs.Effects.{commands_of}
+use Rattle.boot_backends.specs.declared.refusal.BootRefusal.{BootRefusal}
+use Rattle.boot_backends.specs.Marked.{OnlyReadVars, names_of}
+use Rattle.boot_backends.specs.Through.{StoppedThrough, Through}
 use Rattle.machine.specs.declared.stops.Fault.{Fault}
+use Rattle.machine.specs.declared.stops.Stop.{Stop}
+use Rattle.machine.specs.declared.stops.Stop.TheVariants as stop
+use Rattle.machine.specs.World.{file, with_file}
 use Rattle.machine.specs.declared.world.World.{World}
 use Rattle.machine.specs.declared.world.Child.{Child}
 use Rattle.machine.specs.declared.world.Spares.{Spares}
 use Rattle.machine.specs.Past.{Call, Past, moments_since, world_now}
-use Rattle.machine.specs.Runs.{LeftAlone, LeftByAStop, first_failed_but, is_run_of}
+use Rattle.machine.specs.Runs.{LeftAlone, LeftByAStop, first_failed_but, is_run_of, runs_since}
 use Rattle.machine.specs.Frames.{DiffersOnlyIn, InRange, SameBut}
 use Rattle.raw_writer.specs.Whole.{IsWritten}
 use Rattle.rauc_words.specs.declared.asked.Asked.{Asked}
 use Rattle.rauc_words.specs.declared.asked.Asked.TheVariants as asked
 use Rattle.rauc_words.specs.declared.asked.Command.{Command}
-use Rattle.rauc_words.specs.declared.asked.Command.TheVariants.{WriteSlot, Info}
+use Rattle.rauc_words.specs.declared.asked.Command.TheVariants.{WriteSlot, Info, Status, Mark}
 use Rattle.rauc_words.specs.declared.asked.Run.{Run}
-use Rattle.rauc_words.specs.Table.{command_of, conf_path}
+use Rattle.rauc_words.specs.Table.{command_of, conf_path, slot_word}
 use Rattle.system_conf.specs.Configuration.{Configuration}
 use Rattle.system_conf.specs.declared.slot.Slot.{Slot}
 use Rattle.slot_graph.specs.declared.state.Booted.{Booted}
+use Rattle.slot_marks.specs.declared.naming.Action.{Action}
+use Rattle.slot_marks.specs.declared.naming.Action.TheVariants as action
+use Rattle.slot_marks.specs.declared.naming.Marked.{Marked}
+use Rattle.slot_marks.specs.declared.refusal.MarkRefusal.{MarkRefusal}
+use Rattle.slot_marks.specs.Answers.{MarkAnswers}
+use Rattle.slot_marks.specs.Marking.{bootname_text, choice, mark_of}
+use Rattle.slot_marks.specs.Noting.{new_text, noted_by}
+use Rattle.status_file.specs.Clock.{clock_since}
+use Rattle.status_report.specs.declared.view.StatusView.{StatusView}
+use Rattle.status_report.specs.Views.{TellsWorld, ViewCause}
 use Rattle.slot_writer.specs.declared.refusal.SlotRefusal.{SlotRefusal}
 use Rattle.slot_writer.specs.declared.refusal.SlotWritten.{SlotWritten}
 use Rattle.updater_text.specs.declared.form.Form.{Form}
@@ -31,77 +51,143 @@ use Rattle.slot_writer.specs.Slots.{piece, slot_answer, slot_device}
 use Rattle.rauc_cli.specs.declared.conf.NoSystem.{NoSystem}
 use Rattle.rauc_cli.specs.declared.outcome.Report.{Report}
 use Rattle.rauc_cli.specs.Conf.{system_at}
-use Rattle.rauc_cli.specs.Lines.{closing_warnings, fault_report, help_report, info_report, no_system_report, slot_refusal_report, usage_report, written_report}
+use Rattle.rauc_cli.specs.Lines.{closing_warnings, fault_report, help_report, info_report, mark_report, no_system_report, slot_report, status_report, usage_report}
 
 -- ---- effects: what a command may change
 
--- nothing, or the front of a device, or what these children need not leave alone
+-- a path, and the bytes that are put there
+abbrev pub Put : Type 0
+Put = List ℕ × List ℕ
+
+-- nothing
+-- or the front of a device
+-- or what these children need not leave alone
+-- or nothing but that what reads the variables of this boot loader is run
+-- or the variables of the machine's boot loader, by these commands, whatever was read before; and this file, where one is put
 pub data Effect : Type 0 where
   Nothing : Effect
   Front : (image device : List ℕ) (written : SlotWritten) → Effect
   Children : (spares : Spares) (children : List Child) → Effect
+  Reading : (boot : BootKind) (names : List (List ℕ)) → Effect
+  Marking : (machine : BootKind) (commands : Variables → List BootCommand) (put : Option Put) → Effect
+
+-- from the world w, or, where a file is put, from w with that file
+abbrev pub From : Option Put → World → (World → Type 0) → Type 0
+From None w P = P w
+From (Some put) w P = P w ⊎ P (with_file w put.0 put.1)
 
 -- each world u on the way, inside the calls too
 abbrev pub OnTheWay : Effect → World → World → Type 0
 OnTheWay Nothing w u = u ≡ w
 OnTheWay (Front image device written) w u = DiffersOnlyIn device 0 written.size w u
 OnTheWay (Children spares children) w u = LeftAlone spares children w u
+OnTheWay (Reading boot names) w u = OnlyReadVars boot names w u
+OnTheWay (Marking machine commands put) w u = (read : Variables) × From put w (λ x. Through machine (commands read) x u)
 
 -- the world v at the end, where all was done
 abbrev pub AtTheEnd : Effect → World → World → Type 0
 AtTheEnd Nothing w v = v ≡ w
 AtTheEnd (Front image device written) w v = IsWritten image device piece written.size written.digest w v
 AtTheEnd (Children spares children) w v = LeftAlone spares children w v
+AtTheEnd (Reading boot names) w v = OnlyReadVars boot names w v
+AtTheEnd (Marking machine commands put) w v = (read : Variables) × From put w (λ x. Through machine (commands read) x v)
 
 -- the world v that a stop of the power may leave
 abbrev pub AfterAStop : Effect → World → World → Type 0
 AfterAStop Nothing w v = SameBut (λ path i. ⊥) w v
 AfterAStop (Front image device written) w v = SameBut (InRange device 0 written.size) w v
 AfterAStop (Children spares children) w v = LeftByAStop spares children w v
+AfterAStop (Reading boot names) w v = (u : World) × OnlyReadVars boot names w u × SameBut (λ path i. ⊥) u v
+AfterAStop (Marking machine commands put) w v = (read : Variables) × From put w (λ x. StoppedThrough machine (commands read) x v)
 
 -- ---- plans: what is reported, and what may be changed
 
--- what is reported where no call failed; the lines on out and the warnings on err that stand also where one did; the calls whose failure changes none of that; and what may be changed
-pub record Plan : Type 0 where
-  pub report : Report
+-- what may be reported where no call failed; the lines on out and the warnings on err that stand also where one did; the calls whose failure changes none of that; and what may be changed
+pub record Plan : Type 1 where
+  pub Reports : Report → Type 0
   pub notes : List ℕ
   pub warnings : List ℕ
   pub passes : Call → Bool
   pub effect : Effect
 
--- to report this, with no lines beside it, and each call that fails counts
+-- to report such a thing, with no lines beside it, and each call that fails counts
+abbrev pub to_report_by : (Report → Type 0) → Effect → Plan
+to_report_by reports effect = record { Reports = reports; notes = []; warnings = []; passes = λ call. false; effect = effect }
+
+-- to report just this
 abbrev pub to_report : Report → Effect → Plan
-to_report report effect = record { report = report; notes = []; warnings = []; passes = λ call. false; effect = effect }
+to_report report effect = to_report_by (λ r. r ≡ report) effect
 
 -- the kind of the first call since old that failed, but for those that are passed over
 abbrev pub fault_in : Plan → Past → Past → Option Fault
 fault_in plan old new = first_failed_but plan.passes (moments_since old new)
 
--- what is reported, with the kind of the first call that failed
-abbrev pub report_of : Plan → Option Fault → Report
-report_of plan None = plan.report
-report_of plan (Some kind) = fault_report plan.notes plan.warnings kind
+-- the report is one of those, or that of the first call that failed
+abbrev pub ReportsBy : Plan → Option Fault → Report → Type 0
+ReportsBy plan None report = plan.Reports report
+ReportsBy plan (Some kind) report = report ≡ fault_report plan.notes plan.warnings kind
 
 -- the same by the past since old
-abbrev pub planned_report : Plan → Past → Past → Report
-planned_report plan old new = report_of plan (fault_in plan old new)
+abbrev pub IsPlanned : Plan → Past → Past → Report → Type 0
+IsPlanned plan old new report = ReportsBy plan (fault_in plan old new) report
 
 -- ---- the plan of each command
 
 -- write-slot, by its answer
 abbrev pub slot_plan : List Slot → List ℕ → List ℕ → Result SlotWritten SlotRefusal → Plan
-slot_plan slots slot image (Ok written) = to_report (written_report slot written.size written.digest.0) (Front image (slot_device slots slot) written)
-slot_plan slots slot image (Err refusal) = to_report (slot_refusal_report slots image refusal) Nothing
+slot_plan slots slot image (Ok written) = to_report (slot_report slots slot image (Ok written)) (Front image (slot_device slots slot) written)
+slot_plan slots slot image (Err refusal) = to_report (slot_report slots slot image (Err refusal)) Nothing
 
 -- info, by what came of the unmount and by its answer; an unmount that failed is a warning, and no fault
 abbrev pub info_plan : Form → Configuration → List ℕ → Closing → Option (Result Content InfoRefusal) → Plan
 info_plan form system bundle closed answer = record {
-  report = info_report form closed answer;
+  Reports = λ r. r ≡ info_report form closed answer;
   notes = [];
   warnings = closing_warnings closed;
   passes = is_run_of (umount_child system);
   effect = Children (helper_spares system []) (info_children system bundle);
 }
+
+-- status: the view, by the world and by what the programs printed, or why one of them did not serve
+abbrev pub StatusAnswers : Configuration → Option (List ℕ) → World → World → Result StatusView BootRefusal → Type 0
+StatusAnswers system given w v (Ok view) = TellsWorld system given w view × ViewCause system (runs_since w v) (Ok view)
+StatusAnswers system given w v (Err why) = ViewCause system (runs_since w v) (Err (stop.Refused why))
+
+abbrev pub status_plan : Form → Bool → Configuration → Option (List ℕ) → World → World → Plan
+status_plan form detailed system given w v =
+    to_report_by (λ r. (answer : Result StatusView BootRefusal) × StatusAnswers system given w v answer × (r ≡ status_report form detailed system answer))
+    (Reading system.boot (names_of system.slots))
+
+-- an answer, as a call gives it that no fault stopped
+abbrev pub answered : {A R : Type 0} → Result A R → Result A (Stop R)
+answered (Ok a) = Ok a
+answered (Err why) = Err (stop.Refused why)
+
+-- what a mark of the slot at a place may change, with the new text of the status file, where one is written
+abbrev pub marking : BootKind → Configuration → Action → ℕ → Option Put → Effect
+marking machine system act at put = Marking machine (commands_of system.boot (names_of system.slots) (mark_of act) (bootname_text system.slots at)) put
+
+-- nothing, where there is no new text
+abbrev pub marking_with : BootKind → Configuration → ℕ → List ℕ → Option (List ℕ) → Effect
+marking_with machine system at path None = Nothing
+marking_with machine system at path (Some text) = marking machine system action.Active at (Some (path, text))
+
+-- by the status file that is written, where there is one, and by what the clock said
+abbrev pub marking_at : BootKind → Configuration → Action → Option (List ℕ) → Option ℤ → World → ℕ → Effect
+marking_at machine system act None clock w at = marking machine system act at None
+marking_at machine system act (Some path) clock w at =
+    marking_with machine system at path (new_text system.slots (file w path) at clock)
+
+-- by the slot that is chosen, where one is
+abbrev pub mark_effect : BootKind → Configuration → Action → Result ℕ MarkRefusal → Option ℤ → World → Effect
+mark_effect machine system act (Ok at) clock w = marking_at machine system act (noted_by system act) clock w at
+mark_effect machine system act (Err why) clock w = Nothing
+
+-- a mark, by the slot that is chosen, by what the clock said, and by the runs
+abbrev pub mark_plan : BootKind → Configuration → Action → Result ℕ MarkRefusal → Option ℤ → World → World → Plan
+mark_plan machine system act choice clock w v =
+    to_report_by (λ r. (answer : Result Marked MarkRefusal) × MarkAnswers system act (noted_by system act) choice clock w v (answered answer) × (r ≡ mark_report system.slots answer))
+    (mark_effect machine system act choice clock w)
 
 -- each command, with its configuration and the name that counts as booted, where one is given
 abbrev pub command_plan : Past → Past → Configuration → Option (List ℕ) → Command → Plan
@@ -109,6 +195,9 @@ command_plan old new system given (WriteSlot slot image) =
     slot_plan system.slots slot image (slot_answer system.slots given slot image (world_now old))
 command_plan old new system given (Info bundle form) =
     info_plan form system bundle (closing_in (umount_child system) old new) (info_in system old new)
+command_plan old new system given (Status form detailed) = status_plan form detailed system given (world_now old) (world_now new)
+command_plan old new system given (Mark act who) =
+    mark_plan old.boot system act (choice system.slots given (slot_word who) (world_now old)) (clock_since old new) (world_now old) (world_now new)
 
 -- a command, where its configuration can be had
 abbrev pub system_plan : Past → Past → Run → Result Configuration NoSystem → Plan

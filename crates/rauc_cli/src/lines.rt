@@ -117,8 +117,8 @@ fn system_cause(alloc: Global, path: &str, refusal: &NoSystem) -> Result<Text, N
     }
 }
 
-// A report of one line on standard error, and nothing else.
-fn error_report(alloc: Global, outcome: Outcome, cause: &str) -> Result<Report, NoMemory>
+/// A report of one line on standard error, and nothing else.
+pub fn error_report(alloc: Global, outcome: Outcome, cause: &str) -> Result<Report, NoMemory>
     ensures { IfOk result (λ r. r ≡ error_report outcome cause.now) }
 {
     let line = format!(in alloc; "rauc: {cause}\n")?;

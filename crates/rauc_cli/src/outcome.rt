@@ -2,8 +2,10 @@ ghost use Rattle.std.specs.Prelude.{◌≡◌};
 ghost use Rattle.rauc_cli.specs.Lines.{status_of};
 
 use crate::BadConf;
+use boot_backends::BootRefusal;
 use machine::Fault;
 use mark_report::InfoRefusal;
+use slot_marks::MarkRefusal;
 use slot_writer::SlotRefusal;
 use updater_text::{Items, Text};
 
@@ -22,6 +24,10 @@ pub enum Outcome {
     BadConfig(BadConf),
     /// `info` is refused.
     Info(InfoRefusal),
+    /// A slot is not marked.
+    Mark(MarkRefusal),
+    /// The programs of the boot loader did not tell its variables.
+    Boot(BootRefusal),
     /// `write-slot` is refused.
     Slot(SlotRefusal),
     /// A call of the machine failed.

@@ -6,43 +6,26 @@ ghost use Rattle.child_steps.specs.Children.{umount_child};
 ghost use Rattle.child_steps.specs.Closing.{closing_in};
 ghost use Rattle.mark_report.specs.Opening.{info_in};
 ghost use Rattle.rauc_words.specs.declared.asked.Asked.TheVariants as asked;
-ghost use Rattle.slot_writer.specs.Checks.{IfRefused, NamesSlot};
+ghost use Rattle.slot_marks.specs.Marking.{choice};
+ghost use Rattle.status_file.specs.Clock.{clock_since};
 ghost use Rattle.slot_writer.specs.Slots.{slot_answer};
-ghost use Rattle.rauc_cli.specs.Plans.{asked_plan, command_plan, info_plan, plan_of, slot_plan};
-ghost use Rattle.rauc_cli.specs.Ends.{CarriesOut, CommandTexts, Ended, HasCause, HasTexts, InfoTexts, OutcomeCounted, Reports, SaysSlot, SlotTexts, StandsAStop, outcome_in};
+ghost use Rattle.rauc_cli.specs.Plans.{asked_plan, command_plan, info_plan, mark_plan, plan_of, slot_plan, status_plan};
+ghost use Rattle.rauc_cli.specs.Ends.{CarriesOut, CommandTexts, Ended, HasCause, HasTexts, InfoTexts, MarkTexts, OutcomeCounted, Reports, SlotTexts, StandsAStop, StatusTexts, outcome_in};
 
 use crate::info_lines::info_report;
-use crate::lines::{
-    help_report, no_system_report, outside, slot_refusal_report, usage_report, written_report,
-};
+use crate::lines::{help_report, no_system_report, outside, usage_report};
 use crate::outcome::Report;
+use crate::slot_lines::{mark_report, slot_report, status_report};
 use crate::{Asked, Command, Finish, Outcome, Place, Run, load_system, read_words};
 use machine::{Machine, Stop};
 use mark_report::{Form, info};
-use slot_writer::{SlotRefusal, SlotWritten, write_slot};
+use rauc_words::slot_word;
+use slot_marks::{Action, mark};
+use slot_writer::write_slot;
+use status_report::status;
 use std::alloc::Global;
 use system_conf::System;
 use updater_text::{NoMemory, Sink, Text, tell};
-
-// The report of write-slot.
-fn slot_report(
-    alloc: Global,
-    system: &System,
-    slot: &str,
-    image: &str,
-    written: Result<SlotWritten, Stop<SlotRefusal>>,
-) -> Result<Report, NoMemory>
-    requires { IfRefused written (NamesSlot system.now.slots slot.now image.now) }
-    ensures says { SaysSlot system.now.slots slot.now image.now written result }
-    ensures texts { IfOk result (λ r. SlotTexts slot.now image.now r.outcome r) }
-{
-    match written {
-        Ok(written) => written_report(alloc, slot, written.size, &written.digest),
-        Err(Stop::Refused(refusal)) => slot_refusal_report(alloc, system, image, refusal),
-        Err(Stop::Outside(kind)) => outside(alloc, kind),
-        Err(Stop::NoMemory) => Err(NoMemory),
-    }
-}
 
 fn run_write_slot<M: Machine>(
     alloc: Global,
@@ -75,6 +58,38 @@ fn run_info<M: Machine>(
     info_report(alloc, form, end)
 }
 
+fn run_status<M: Machine>(
+    alloc: Global,
+    m: &mut M,
+    system: &System,
+    given: Option<&str>,
+    form: Form,
+    detailed: bool,
+) -> Result<Report, NoMemory>
+    ensures ended { Ended M.tells (status_plan form detailed (system_configuration system.now) (option_map (λ name. name.now) given.entry) (world_now (M.past m.old)) (world_now (M.past m.new))) (M.past m.old) (M.past m.new) result }
+    ensures texts { IfOk result (λ r. StatusTexts form detailed r.outcome r) }
+    ensures counts { OutcomeCounted (M.faults m.old) (M.faults m.new) (M.wants m.old) (M.wants m.new) (outcome_in result) }
+{
+    let view = status(alloc, m, system, given);
+    status_report(alloc, system, form, detailed, view)
+}
+
+fn run_mark<M: Machine>(
+    alloc: Global,
+    m: &mut M,
+    system: &System,
+    given: Option<&str>,
+    action: Action,
+    who: &str,
+) -> Result<Report, NoMemory>
+    ensures ended { Ended M.tells (mark_plan (M.past m.old).boot (system_configuration system.now) action (choice system.now.slots (option_map (λ name. name.now) given.entry) who.now (world_now (M.past m.old))) (clock_since (M.past m.old) (M.past m.new)) (world_now (M.past m.old)) (world_now (M.past m.new))) (M.past m.old) (M.past m.new) result }
+    ensures texts { IfOk result (λ r. MarkTexts action who.now r.outcome r) }
+    ensures counts { OutcomeCounted (M.faults m.old) (M.faults m.new) (M.wants m.old) (M.wants m.new) (outcome_in result) }
+{
+    let marked = mark(alloc, m, system, given, action, who);
+    mark_report(alloc, system, action, who, marked)
+}
+
 // Carries out a command, with its configuration and the name that counts as booted.
 fn run_command<M: Machine>(
     alloc: Global,
@@ -92,6 +107,12 @@ fn run_command<M: Machine>(
             run_write_slot(alloc, m, system, given, slot.as_str(), image.as_str())
         }
         Command::Info { bundle, form } => run_info(alloc, m, system, bundle.as_str(), *form),
+        Command::Status { form, detailed } => {
+            run_status(alloc, m, system, given, *form, *detailed)
+        }
+        Command::Mark { action, who } => {
+            run_mark(alloc, m, system, given, *action, slot_word(who))
+        }
     }
 }
 

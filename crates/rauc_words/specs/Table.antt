@@ -1,5 +1,5 @@
 -- The table of commands, over what words give.
-use Rattle.std.specs.Prelude.{ℕ, ◌+◌, ◌==◌, ◌&&◌, ◌||◌, Bool, true, false, not, nat_le, List, [], ◌∷◌, Option, Some, None, codes, find, length, if◌then◌else◌, is_some, option_and_then, option_map}
+use Rattle.std.specs.Prelude.{ℕ, ◌+◌, ◌==◌, ◌&&◌, ◌||◌, Bool, true, false, not, nat_le, List, [], ◌∷◌, Option, Some, None, codes, find, length, if◌then◌else◌, is_some, option_and_then, option_map, unwrap_or}
 use Rattle.std.specs.List.{list_any}
 use Rattle.std.specs.Option.{option_map_or}
 use Rattle.std.specs.Str.{bytes_eq}
@@ -18,6 +18,8 @@ use Rattle.rauc_words.specs.declared.table.CommandKind.{CommandKind}
 use Rattle.rauc_words.specs.declared.table.CommandKind.TheVariants as kind
 use Rattle.rauc_words.specs.declared.table.CommandRow.{CommandRow}
 use Rattle.rauc_words.specs.declared.table.ExtraNames.{ExtraNames}
+use Rattle.slot_marks.specs.declared.naming.Action.{Action}
+use Rattle.slot_marks.specs.declared.naming.Action.TheVariants as action
 use Rattle.updater_text.specs.declared.form.Form.{Form}
 use Rattle.updater_text.specs.declared.form.Form.TheVariants as form
 
@@ -29,11 +31,21 @@ no_extras = record { output_format = false; socket = false; connections = false;
 abbrev pub command_rows : List (Text × CommandRow)
 command_rows =
     (codes "write-slot", record { kind = kind.WriteSlot; fewest = 2; most = 2; allowed = no_extras })
-    ∷ (codes "info", record { kind = kind.Info; fewest = 1; most = 1; allowed = record no_extras { output_format = true } }) ∷ []
+    ∷ (codes "info", record { kind = kind.Info; fewest = 1; most = 1; allowed = record no_extras { output_format = true } })
+    ∷ (codes "status", record { kind = kind.Status; fewest = 0; most = 0; allowed = record no_extras { output_format = true; detailed = true } })
+    ∷ (codes "status", record { kind = kind.Mark; fewest = 1; most = 2; allowed = no_extras }) ∷ []
 
--- the row of a command by its name
-abbrev pub command_row : Text → Option CommandRow
-command_row name = option_map (λ row. row.1) (find (λ row. bytes_eq name row.0) command_rows)
+-- the command takes so many positionals
+abbrev pub has_count : ℕ → CommandRow → Bool
+has_count count row = nat_le row.fewest count && nat_le count row.most
+
+-- the row, where it does
+abbrev pub row_if : CommandRow → ℕ → Option CommandRow
+row_if row count = if has_count count row then Some row else None
+
+-- the row of a command by its name and by how many positionals follow
+abbrev pub command_row : Text → ℕ → Option CommandRow
+command_row name count = option_map (λ row. row.1) (find (λ row. bytes_eq name row.0 && has_count count row.1) command_rows)
 
 -- `write-slot SLOT IMAGE`
 abbrev pub write_slot_command : Option Text → Option Text → Option Command
@@ -52,10 +64,27 @@ form_of (Some name) = option_map (λ row. row.1) (find (λ row. bytes_eq name ro
 abbrev pub info_command : Option Text → Option Text → Option Command
 info_command first format = option_and_then (λ bundle. option_map (λ named. command.Info bundle named) (form_of format)) first
 
--- each command from its positionals and the value of `--output-format`
-abbrev pub build : CommandKind → Option Text → Option Text → Option Text → Option Command
-build kind.WriteSlot first second format = write_slot_command first second
-build kind.Info first second format = info_command first format
+-- `status`, in the form of `--output-format`
+abbrev pub status_command : Option Text → Bool → Option Command
+status_command format detailed = option_map (λ named. command.Status named detailed) (form_of format)
+
+-- the words of what is done to a slot
+abbrev pub action_rows : List (Text × Action)
+action_rows = (codes "mark-good", action.Good) ∷ (codes "mark-bad", action.Bad) ∷ (codes "mark-active", action.Active) ∷ []
+
+abbrev pub action_of : Text → Option Action
+action_of word = option_map (λ row. row.1) (find (λ row. bytes_eq word row.0) action_rows)
+
+-- `status ACTION [SLOT]`
+abbrev pub mark_command : Option Text → Option Text → Option Command
+mark_command first second = option_map (λ act. command.Mark act second) (option_and_then action_of first)
+
+-- each command from its positionals and its options
+abbrev pub build : CommandKind → Option Text → Option Text → Extras → Option Command
+build kind.WriteSlot first second extras = write_slot_command first second
+build kind.Info first second extras = info_command first extras.output_format
+build kind.Status first second extras = status_command extras.output_format extras.detailed
+build kind.Mark first second extras = mark_command first second
 
 -- how many positionals follow the command's name
 abbrev pub positional_count : Positionals → ℕ
@@ -78,21 +107,18 @@ are_allowed given allowed =
     && (not given.connections || allowed.connections)
     && (not given.ignore_compatible || allowed.ignore_compatible) && (not given.detailed || allowed.detailed)
 
--- the command takes as many positionals, and these options
-abbrev pub takes : CommandRow → CommandLine → Bool
-takes row line = nat_le row.fewest (positional_count line.positionals) && nat_le (positional_count line.positionals) row.most
-    && are_allowed (extra_names line.extras) row.allowed
-
--- the command of a row, where it takes what the line gives
+-- the command of a row, where it allows the options that the line gives
 abbrev pub row_command : CommandLine → CommandRow → Option Run
-row_command line row = if takes row line
+row_command line row = if are_allowed (extra_names line.extras) row.allowed
     then option_map (λ made. record { place = line.place; command = made })
-    (build row.kind line.positionals.first line.positionals.second line.extras.output_format)
+    (build row.kind line.positionals.first line.positionals.second line.extras)
     else None
 
 -- the command that the line names
 abbrev pub command_in : CommandLine → Option Run
-command_in line = option_and_then (row_command line) (option_and_then command_row line.positionals.command)
+command_in line =
+    option_and_then (row_command line)
+    (option_and_then (λ name. command_row name (positional_count line.positionals)) line.positionals.command)
 
 -- there is no value, or one that is not empty and has no NUL
 abbrev pub is_usable : Option Text → Bool
@@ -118,3 +144,7 @@ command_of words = option_and_then request_in (command_line_of words)
 -- the path of the configuration: the one that the words name, or the usual one
 abbrev pub conf_path : Place → Text
 conf_path place = option_map_or (λ path. path) place.conf (codes "/etc/rauc/system.conf")
+
+-- the word for the slot that is marked: the one that is given, or `booted`
+abbrev pub slot_word : Option Text → Text
+slot_word who = unwrap_or who (codes "booted")

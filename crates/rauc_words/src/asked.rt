@@ -1,6 +1,7 @@
 ghost use Rattle.std.specs.Prelude.{◌≡◌};
-ghost use Rattle.rauc_words.specs.Table.{conf_path};
+ghost use Rattle.rauc_words.specs.Table.{conf_path, slot_word};
 
+use slot_marks::Action;
 use updater_text::{Form, Text};
 
 /// Where a configuration stands that no word names.
@@ -34,6 +35,21 @@ pub enum Command {
     WriteSlot { slot: Text, image: Text },
     /// Tells what the manifest of the bundle at a path says.
     Info { bundle: Text, form: Form },
+    /// Tells what is booted and in what state the slots are, and what the status file has of them where
+    /// `detailed` says so.
+    Status { form: Form, detailed: bool },
+    /// Marks a slot: the one that the word means, or the booted one where there is no word.
+    Mark { action: Action, who: Option<Text> },
+}
+
+/// The slot that is marked, as a word: the one that is given, or `booted`.
+pub fn slot_word(who: &Option<Text>) -> &str
+    ensures { result.now ≡ slot_word who.entry.now }
+{
+    match who {
+        Some(who) => who.as_str(),
+        None => "booted",
+    }
 }
 
 /// A command, and where it finds the system that it works on.

@@ -1,8 +1,9 @@
 ghost use Rattle.std.specs.Prelude.{◌≡◌, IfOk};
-ghost use Rattle.rauc_words.specs.Table.{are_usable, build, command_in, command_of, command_row, extra_names, form_of, info_command, is_usable, are_allowed, positional_count, request_in, takes, write_slot_command};
+ghost use Rattle.rauc_words.specs.Table.{action_of, are_allowed, are_usable, build, command_in, command_of, command_row, extra_names, form_of, info_command, is_usable, mark_command, positional_count, request_in, row_if, status_command, write_slot_command};
 
 use crate::command_line::{CommandLine, Extras, Positionals, parse};
 use crate::{Asked, Command, Run};
+use slot_marks::Action;
 use std::alloc::Global;
 use updater_text::{Form, NoMemory, Text};
 
@@ -21,6 +22,8 @@ pub struct ExtraNames {
 pub enum CommandKind {
     WriteSlot,
     Info,
+    Status,
+    Mark,
 }
 
 /// What a command takes: its positionals, from the fewest to the most, and the options that it
@@ -58,13 +61,44 @@ const INFO: CommandRow = CommandRow {
     },
 };
 
-// The table of the commands, by their names.
-fn command_row(name: &str) -> Option<CommandRow>
-    ensures { result ≡ command_row name.now }
+const STATUS: CommandRow = CommandRow {
+    kind: CommandKind::Status,
+    fewest: 0,
+    most: 0,
+    allowed: ExtraNames {
+        output_format: true,
+        detailed: true,
+        ..NO_EXTRAS
+    },
+};
+
+const MARK: CommandRow = CommandRow {
+    kind: CommandKind::Mark,
+    fewest: 1,
+    most: 2,
+    allowed: NO_EXTRAS,
+};
+
+// The row, where it takes so many positionals.
+fn row_if(row: CommandRow, count: usize) -> Option<CommandRow>
+    ensures { result ≡ row_if row count }
+{
+    if row.fewest <= count && count <= row.most {
+        Some(row)
+    } else {
+        None
+    }
+}
+
+// The table of the commands, by their names and by how many positionals follow.
+fn command_row(name: &str, count: usize) -> Option<CommandRow>
+    ensures { result ≡ command_row name.now count }
 {
     match name {
-        "write-slot" => Some(WRITE_SLOT),
-        "info" => Some(INFO),
+        "write-slot" => row_if(WRITE_SLOT, count),
+        "info" => row_if(INFO, count),
+        "status" if count == 0 => Some(STATUS),
+        "status" => row_if(MARK, count),
         _ => None,
     }
 }
@@ -101,18 +135,52 @@ fn info_command(first: Option<Text>, format: &Option<Text>) -> Option<Command>
     Some(Command::Info { bundle, form })
 }
 
-// The command of this kind with its positionals and the value of `--output-format`.
+// `status`, in the form of `--output-format`.
+fn status_command(format: &Option<Text>, detailed: bool) -> Option<Command>
+    ensures { result ≡ status_command format.now detailed }
+{
+    let form = form_of(format)?;
+    Some(Command::Status { form, detailed })
+}
+
+// What this word does to a slot.
+fn action_of(word: &str) -> Option<Action>
+    ensures { result ≡ action_of word.now }
+{
+    match word {
+        "mark-good" => Some(Action::Good),
+        "mark-bad" => Some(Action::Bad),
+        "mark-active" => Some(Action::Active),
+        _ => None,
+    }
+}
+
+// `status ACTION [SLOT]`.
+fn mark_command(first: Option<Text>, second: Option<Text>) -> Option<Command>
+    ensures { result ≡ mark_command first second }
+{
+    let word = first?;
+    let action = action_of(word.as_str())?;
+    Some(Command::Mark {
+        action,
+        who: second,
+    })
+}
+
+// The command of this kind with its positionals and its options.
 fn build(
     kind: CommandKind,
     first: Option<Text>,
     second: Option<Text>,
-    format: &Option<Text>,
+    extras: &Extras,
 ) -> Option<Command>
-    ensures { result ≡ build kind first second format.now }
+    ensures { result ≡ build kind first second extras.now }
 {
     match kind {
         CommandKind::WriteSlot => write_slot_command(first, second),
-        CommandKind::Info => info_command(first, format),
+        CommandKind::Info => info_command(first, &extras.output_format),
+        CommandKind::Status => status_command(&extras.output_format, extras.detailed),
+        CommandKind::Mark => mark_command(first, second),
     }
 }
 
@@ -145,19 +213,12 @@ fn are_allowed(given: ExtraNames, allowed: ExtraNames) -> bool
         && (!given.detailed || allowed.detailed)
 }
 
-// The command takes as many positionals, and each option that is given is allowed.
-fn takes(row: CommandRow, line: &CommandLine) -> bool
-    ensures { result ≡ takes row line.now }
-{
-    let count = positional_count(&line.positionals);
-    row.fewest <= count && count <= row.most && are_allowed(extra_names(&line.extras), row.allowed)
-}
-
 fn command_in(line: CommandLine) -> Option<Run>
     ensures { result ≡ command_in line }
 {
-    let row = command_row(line.positionals.command.as_ref()?.as_str())?;
-    if !takes(row, &line) {
+    let name = line.positionals.command.as_ref()?.as_str();
+    let row = command_row(name, positional_count(&line.positionals))?;
+    if !are_allowed(extra_names(&line.extras), row.allowed) {
         return None;
     }
     let CommandLine {
@@ -166,12 +227,7 @@ fn command_in(line: CommandLine) -> Option<Run>
         extras,
         ..
     } = line;
-    let command = build(
-        row.kind,
-        positionals.first,
-        positionals.second,
-        &extras.output_format,
-    )?;
+    let command = build(row.kind, positionals.first, positionals.second, &extras)?;
     Some(Run { place, command })
 }
 

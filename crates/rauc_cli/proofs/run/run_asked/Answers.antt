@@ -1,6 +1,6 @@
 use Rattle.system_conf.specs.Reads.{system_configuration}
 use Rattle.rauc_cli.specs.Ends.{outcome_in}
-use Rattle.rauc_cli.proofs.Commands.{asked_fault, asked_refusal, asked_system, counted_later, texts_command, texts_outside}
+use Rattle.rauc_cli.proofs.Commands.{asked_fault, asked_memory, asked_refusal, asked_system, counted_later, texts_command, texts_outside}
 use Rattle.rauc_cli.proofs.run.run_asked.Goals as goal
 
 pub returns-in-Ok-clause-ended : goal.returns-in-Ok-clause-ended
@@ -24,3 +24,7 @@ returns-in-Err-Outside-clause-ended g c =
 
 pub returns-in-Err-Outside-clause-texts : goal.returns-in-Err-Outside-clause-texts
 returns-in-Err-Outside-clause-texts g c = texts_outside c.args.run.now c.in-Err-Outside.kind c.outside.result c.outside.ensures
+
+pub returns-in-Err-NoMemory-clause-ended : goal.returns-in-Err-NoMemory-clause-ended
+returns-in-Err-NoMemory-clause-ended g c =
+    asked_memory _ c.args.run.now c.conf_path-path.result.now c.conf_path-path.ensures _ _ c.in-Err-NoMemory.ensures.unchanged c.in-Err-NoMemory.ensures.once _
