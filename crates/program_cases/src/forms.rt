@@ -27,6 +27,17 @@ pub fn number_of(text: &str) -> u64 {
     read_number(text.as_bytes()).unwrap_or(0)
 }
 
+/// The seconds that a text spells, which may begin with a minus, else 0.
+pub fn seconds_of(text: &str) -> i64 {
+    let digits = text.strip_prefix('-').unwrap_or(text);
+    let seconds = i64::try_from(number_of(digits)).unwrap_or(i64::MAX);
+    if text.starts_with('-') {
+        0_i64.saturating_sub(seconds)
+    } else {
+        seconds
+    }
+}
+
 /// The first and the last number of `FIRST-LAST`.
 pub fn range_of(value: &str) -> Option<(u64, u64)> {
     let (first, last) = value.split_once('-')?;
@@ -54,6 +65,19 @@ fn is_number(text: &str) -> bool {
     read_number(text.as_bytes()).is_some()
 }
 
+fn are_seconds(text: &str) -> bool {
+    is_number(text.strip_prefix('-').unwrap_or(text))
+}
+
+// Whether a text is KIND, or KIND:PLACE where the kind takes a place.
+fn is_loader(text: &str) -> bool {
+    match cut(text, ':') {
+        ("grub" | "custom", place) => !place.is_empty(),
+        ("uboot" | "barebox" | "efi" | "noop", place) => place.is_empty(),
+        _ => false,
+    }
+}
+
 fn are_numbers(text: &str) -> bool {
     text.split(';').all(is_number)
 }
@@ -74,7 +98,8 @@ fn run_fault(key: &str, value: &str) -> Option<&'static str> {
     match key {
         "shows" | "words" => None,
         "fails" | "out-fails" | "err-fails" => unless(are_numbers(value), "no list of numbers"),
-        "now" => unless(is_number(value), "no number"),
+        "now" => unless(are_seconds(value), "no number"),
+        "boot" => unless(is_loader(value), "no boot loader"),
         "stop" => unless(value == "each" || is_number(value), "no number"),
         "picks" => unless(range_of(value).is_some(), "not FIRST-LAST"),
         _ => Some(UNKNOWN),

@@ -1,5 +1,5 @@
 use crate::content::{content_of, entry_of};
-use crate::forms::{cut, number_of};
+use crate::forms::{cut, seconds_of};
 use crate::scripts::scripts_of;
 use boot_model::{BootKind, Vars};
 use keyfile::KeyFile;
@@ -57,7 +57,29 @@ fn vars_of(alloc: Global, case: &KeyFile) -> Result<Vars, NoMemory> {
     Ok(vars)
 }
 
+// The boot loader that KIND or KIND:PLACE names. The counts of attempts matter to no program.
+fn loader_of(alloc: Global, value: &str) -> Result<BootKind, NoMemory> {
+    let (word, place) = cut(value, ':');
+    let place = Text::new(alloc, place)?;
+    Ok(match word {
+        "grub" => BootKind::Grub { file: place },
+        "custom" => BootKind::Custom { program: place },
+        "uboot" => BootKind::Uboot {
+            attempts: 3,
+            primary_attempts: 3,
+        },
+        "barebox" => BootKind::Barebox {
+            state: None,
+            attempts: 3,
+            primary_attempts: 3,
+        },
+        "efi" => BootKind::Efi { use_next: true },
+        _ => BootKind::Noop,
+    })
+}
+
 fn setup_of(alloc: Global, case: &KeyFile, stop: Option<u64>) -> Result<Setup, NoMemory> {
+    let boot = loader_of(alloc, run_value(case, "boot"))?;
     let fails = numbers_of(alloc, case, "fails")?;
     let disks = named_of(alloc, case, "disk")?;
     let files = named_of(alloc, case, "file")?;
@@ -66,12 +88,12 @@ fn setup_of(alloc: Global, case: &KeyFile, stop: Option<u64>) -> Result<Setup, N
     Ok(Setup {
         disks,
         files,
-        boot: BootKind::Noop,
+        boot,
         vars,
         scripts,
         fails: Items::from_vec(fails),
         stop,
-        now: i64::try_from(number_of(run_value(case, "now"))).unwrap_or(i64::MAX),
+        now: seconds_of(run_value(case, "now")),
     })
 }
 
