@@ -64,12 +64,14 @@ _rauc() {
     mapfile -t names < <(_rauc_bootnames "$conf" && _rauc_slots "$conf")
     _rauc_offer "${names[@]}"
   elif [ "$wants" = format ]; then
-    [ "$command" = info ] && _rauc_offer readable shell
+    case $command in info | status) _rauc_offer readable shell ;; esac
   elif [ -n "$options" ] && [[ $word == -* ]]; then
     _rauc_offer -c --conf --override-boot-slot -h --help
     [ "$command" = info ] && _rauc_offer --output-format
+    # A mark allows neither of the two.
+    [ "$command" = status ] && [ ${#positionals[@]} = 1 ] && _rauc_offer --output-format --detailed
   elif [ ${#positionals[@]} = 0 ]; then
-    _rauc_offer write-slot info
+    _rauc_offer status write-slot info
   elif [ "$command" = write-slot ] && [ ${#positionals[@]} = 1 ]; then
     mapfile -t names < <(_rauc_slots "$conf")
     _rauc_offer "${names[@]}"
@@ -77,6 +79,11 @@ _rauc() {
     _rauc_files
   elif [ "$command" = info ] && [ ${#positionals[@]} = 1 ]; then
     _rauc_bundles
+  elif [ "$command" = status ] && [ ${#positionals[@]} = 1 ]; then
+    _rauc_offer mark-good mark-bad mark-active
+  elif [ "$command" = status ] && [[ ${positionals[1]} == mark-* ]] && [ ${#positionals[@]} = 2 ]; then
+    mapfile -t names < <(_rauc_slots "$conf")
+    _rauc_offer booted other "${names[@]}"
   fi
 }
 

@@ -50,7 +50,8 @@ offers() {
   fi
 }
 
-offers $'write-slot\ninfo' ''
+offers $'status\nwrite-slot\ninfo' ''
+offers status st
 offers write-slot wri
 offers info in
 offers '' install
@@ -90,7 +91,19 @@ offers '' write-slot --ou
 offers '' write-slot --output-format = ''
 offers '' --output-format = ''
 offers '' -- -
-offers $'write-slot\ninfo' -- ''
+offers $'status\nwrite-slot\ninfo' -- ''
+offers $'mark-good\nmark-bad\nmark-active' -c c status ''
+offers mark-active status mark-a
+offers $'booted\nother\nrootfs.0\nrootfs.1' -c c status mark-good ''
+offers other -c c status mark-active o
+offers data.0 -c other.conf status mark-bad d
+offers '' -c c status mark-bad other ''
+offers '' -c c status frobnicate ''
+offers $'-c\n--conf\n--override-boot-slot\n-h\n--help\n--output-format\n--detailed' status -
+offers --detailed status --d
+offers '' status mark-good --d
+offers '' info --d
+offers $'readable\nshell' status --output-format = ''
 offers new.raucb -- info n
 if [ "$(complete -p rauc)" = 'complete -F _rauc rauc' ]; then
   passed=$((passed + 1))
