@@ -16,6 +16,11 @@ use Rattle.machine.specs.Frames.{DiffersOnlyIn, IsRead}
 use Rattle.raw_writer.specs.declared.whole.WholeStop.{WholeStop}
 use Rattle.raw_writer.specs.declared.whole.WholeStop.TheVariants.{Outside, Short, NoMemory}
 
+-- bytes begin with an image of this size and this SHA-256
+pub record IsWhole (bytes : List ℕ) (size : ℕ) (digest : Digest) : Type 0 where
+  pub enough : size ≤ length bytes
+  pub hashed : digest.0 ≡ sha256 (take size bytes)
+
 -- bytes with so many of an image's at their front
 abbrev pub with_image_front : ℕ → List ℕ → List ℕ → List ℕ
 with_image_front count image old = take count image ++ drop count old

@@ -1,5 +1,5 @@
 -- The records of the slots, and what a status file says of them, as RAUC's manual describes that file.
-use Rattle.std.specs.Prelude.{ℕ, ◌^◌, nat_lt, List, ◌++◌, codes, map, Option, None, option_map, option_and_then, unwrap_or, slice_index_or, Result, Ok, Err}
+use Rattle.std.specs.Prelude.{ℕ, ◌^◌, nat_lt, Bool, ◌||◌, List, ◌++◌, codes, map, Option, None, is_some, option_map, option_and_then, unwrap_or, slice_index_or, Result, Ok, Err}
 use Rattle.updater_text.specs.Digests.{digest_of}
 use Rattle.updater_text.specs.Numbers.{number_of}
 use Rattle.updater_text.specs.declared.digest.Digest.{Digest}
@@ -24,6 +24,12 @@ pub record RecordContent : Type 0 where
 -- that of a slot of which nothing is known
 abbrev pub no_record : RecordContent
 no_record = record { bundle = None; status = None; digest = None; size = None; installed_time = None; installed_count = 0; activated_time = None; activated_count = 0 }
+
+-- anything is known of the slot: its record has a value, or a count above 0
+abbrev pub is_known : RecordContent → Bool
+is_known r =
+    (is_some r.bundle || (is_some r.status || (is_some r.digest || is_some r.size)))
+    || ((is_some r.installed_time || nat_lt 0 r.installed_count) || (is_some r.activated_time || nat_lt 0 r.activated_count))
 
 -- the record at a place
 abbrev pub record_at : List RecordContent → ℕ → RecordContent

@@ -8,6 +8,7 @@ mod cause;
 mod changes;
 mod day;
 mod image_file;
+mod known;
 mod reading;
 mod refusal;
 mod slot_record;

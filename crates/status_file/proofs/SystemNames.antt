@@ -1,8 +1,9 @@
 -- The names of a system's slots are names of slots, and differ.
-use Rattle.std.proofs.Common.{◌≡◌, ◌<◌, ℕ, zero, suc, ◌+◌, ◌^◌, Bool, true, false, cond, not, ◌&&◌, ◌||◌, eqb, nat_le, nat_lt, List, [], ◌∷◌, ◌++◌, length, take, drop, get_or, codes, decimal, Some, None, IsTrue, refl, ◌∙◌, ap, arith, append_assoc, ltb-true}
-use Rattle.std.specs.Prelude.{is_some, bytes_eq}
+use Rattle.std.proofs.Common.{◌≡◌, ◌<◌, ℕ, zero, suc, ◌+◌, ◌^◌, Bool, true, false, cond, not, ◌&&◌, ◌||◌, eqb, nat_le, nat_lt, List, [], ◌∷◌, ◌++◌, length, take, drop, get_or, codes, decimal, Some, None, IsTrue, refl, sym, ◌∙◌, ap, arith, append_assoc, ltb-true, ltb-false, ◌≤◌}
+use Rattle.std.specs.Prelude.{is_none, is_some, bytes_eq}
 use Rattle.std.specs.List.{AllByRecursion, IsDistinct, list_all, list_any, position_or_len}
-use Rattle.std.proofs.lemmas.Bool.{and_parts}
+use Rattle.std.proofs.lemmas.Bool.{and_parts, true≢false}
+use Rattle.std.proofs.lemmas.List.{length-map}
 use Rattle.std.proofs.lemmas.Bool.Decides.{nat_tests}
 use Rattle.std.proofs.lemmas.Fmt.{decimal_digit, first_decimal}
 use Rattle.std.proofs.lemmas.Map.Keys.{IsDistinct-head, IsDistinct-tail}
@@ -14,7 +15,9 @@ use Rattle.conf_forms.specs.SlotNames.{class_in_name, index_in, index_in_name, i
 use Rattle.slot_status.specs.Texts.{are_slot_names}
 use Rattle.slot_status.proofs.Digits.{number_of-decimal}
 use Rattle.system_conf.specs.Formed.{has_its_name, is_slot_formed}
+use Rattle.system_conf.specs.Refusals.{too_many}
 use Rattle.system_conf.specs.Sound.{AreSlotsSound}
+use Rattle.system_conf.specs.declared.conf_refusal.ConfRefusal.TheVariants as refusal
 use Rattle.system_conf.specs.declared.slot.Slot.{Slot}
 use Rattle.status_file.specs.Status.{names_in}
 
@@ -97,3 +100,13 @@ slot_names (s ∷ slots) formed =
 
 pub names_fit : (slots : List Slot) → AreSlotsSound slots → IsTrue (are_slot_names (names_in slots))
 names_fit slots sound = λ i. slot_names slots sound.formed i && differ (names_in slots) sound.names_differ i
+
+-- ---- they are few
+
+pub few_names : (slots : List Slot) → AreSlotsSound slots → length (names_in slots) ≤ 64
+unfolding too_many
+few_names slots sound = omega (arith, length-map slots (λ (s : Slot). s.name), within (nat_lt 64 (length slots)) refl (sound.few))
+  where
+    within : (b : Bool) → nat_lt 64 (length slots) ≡ b → IsTrue (is_none (cond b (Some (refusal.TooMany (length slots))) None)) → length slots ≤ 64
+    within true is none = absurd (true≢false (sym none))
+    within false is none = ltb-false 64 (length slots) is

@@ -40,9 +40,13 @@ pub record IsBlank (slots : List Slot) (failed : Bool) (read : StatusRead) : Typ
   pub book : read.book ≡ blank_book slots
   pub unread : read.unread ≡ failed
 
+-- the bytes of a status file, where there is a path for it and it is there
+abbrev pub bytes_at : Option Text → World → Option Text
+bytes_at status w = option_and_then (λ path. file w path) status
+
 -- the bytes of the status file of a system, where it has one and that is there
 abbrev pub status_bytes : Configuration → World → Option Text
-status_bytes s w = option_and_then (λ path. file w path) s.status_file
+status_bytes s w = bytes_at s.status_file w
 
 -- this is what it says in a world
 abbrev pub IsStored : Configuration → World → StatusRead → Type 0
