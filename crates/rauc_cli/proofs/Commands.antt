@@ -22,10 +22,9 @@ use Rattle.slot_marks.specs.Marking.{choice}
 use Rattle.status_file.specs.Clock.{clock_since}
 use Rattle.status_file.proofs.Clocks.{clock_after, clock_once}
 use Rattle.system_conf.specs.Configuration.{Configuration}
-use Rattle.system_conf.specs.declared.slot.Slot.{Slot}
 use Rattle.slot_writer.specs.declared.refusal.SlotRefusal.{SlotRefusal}
 use Rattle.slot_writer.specs.declared.refusal.SlotWritten.{SlotWritten}
-use Rattle.slot_writer.specs.Slots.{PutKept, Puts, slot_answer, slot_device}
+use Rattle.slot_writer.specs.Slots.{PutKept, Puts, slot_answer}
 use Rattle.rauc_cli.specs.declared.conf.NoSystem.{NoSystem}
 use Rattle.rauc_cli.specs.declared.conf.BadConf.{BadConf}
 use Rattle.rauc_cli.specs.declared.outcome.Outcome.{Outcome}
@@ -40,46 +39,46 @@ use Rattle.rauc_cli.proofs.BundleInfo.{info_later, quiet_info}
 
 -- ---- write-slot
 
-pub quiet_slot : (slots : List Slot) (slot image : List ℕ) (answer : Result SlotWritten SlotRefusal) → IsQuiet (slot_plan slots slot image answer)
-quiet_slot slots slot image (Ok written) = quiet_report _ _
-quiet_slot slots slot image (Err refusal) = quiet_report _ _
+pub quiet_slot : (system : Configuration) (slot image : List ℕ) (answer : Result SlotWritten SlotRefusal) → IsQuiet (slot_plan system slot image answer)
+quiet_slot system slot image (Ok written) = quiet_report _ _
+quiet_slot system slot image (Err refusal) = quiet_report _ _
 
-slot_way : (slots : List Slot) (slot image : List ℕ) (answer : Result SlotWritten SlotRefusal) (w u : World) → PutKept (slot_device slots slot) answer w u → OnTheWay (slot_plan slots slot image answer).effect w u
-slot_way slots slot image (Ok written) w u h = h
-slot_way slots slot image (Err refusal) w u h = h
+slot_way : (system : Configuration) (slot image : List ℕ) (answer : Result SlotWritten SlotRefusal) (w u : World) → PutKept system answer w u → OnTheWay (slot_plan system slot image answer).effect w u
+slot_way system slot image (Ok written) w u h = h
+slot_way system slot image (Err refusal) w u h = h
 
-module _ (t : Bool) (slots : List Slot) (slot image : List ℕ) (answer : Result SlotWritten SlotRefusal) (a b : Past) where
+module _ (t : Bool) (system : Configuration) (slot image : List ℕ) (answer : Result SlotWritten SlotRefusal) (a b : Past) where
   abbrev aim : Result SlotWritten SlotRefusal → Plan
-  aim r = slot_plan slots slot image r
+  aim r = slot_plan system slot image r
 
   abbrev way : World → Type 0
-  way = PutKept (slot_device slots slot) answer (world_now a)
+  way = PutKept system answer (world_now a)
 
   keeps : (IsTrue t → Always a b way) → IsTrue t → Always a b (OnTheWay (aim answer).effect (world_now a))
-  keeps kept told = always_weaker a b way (OnTheWay (aim answer).effect (world_now a)) (λ u h. slot_way slots slot image answer (world_now a) u h) (kept told)
+  keeps kept told = always_weaker a b way (OnTheWay (aim answer).effect (world_now a)) (λ u h. slot_way system slot image answer (world_now a) u h) (kept told)
 
   abbrev Slots : Plan → Result SlotWritten (Stop SlotRefusal) → Type 0
-  Slots p written = Meets p (AtTheEnd p.effect (world_now a) (world_now b)) (slot_report slots slot image) written
+  Slots p written = Meets p (AtTheEnd p.effect (world_now a) (world_now b)) (slot_report system.slots slot image) written
 
-  meets : (written : Result SlotWritten (Stop SlotRefusal)) → Puts t image (slot_device slots slot) answer a b written → IsTrue t → Slots (aim answer) written
+  meets : (written : Result SlotWritten (Stop SlotRefusal)) → Puts t system image answer a b written → IsTrue t → Slots (aim answer) written
   meets (Ok written) puts told = subst (λ (r : Result SlotWritten SlotRefusal). Slots (aim r) (Ok written)) (sym (puts.answers told)) (refl, puts.left told)
   meets (Err (stop.Refused refusal)) puts told =
       subst (λ (r : Result SlotWritten SlotRefusal). Slots (aim r) (Err (stop.Refused refusal))) (sym (puts.answers told))
-      (refl, subst (λ (r : Result SlotWritten SlotRefusal). PutKept (slot_device slots slot) r (world_now a) (world_now b)) (puts.answers told) (always_now a b way (puts.kept told)))
+      (refl, subst (λ (r : Result SlotWritten SlotRefusal). PutKept system r (world_now a) (world_now b)) (puts.answers told) (always_now a b way (puts.kept told)))
   meets (Err (stop.Outside kind)) puts told = tt
   meets (Err stop.NoMemory) puts told = tt
 
-  pub ended_slot : (written : Result SlotWritten (Stop SlotRefusal)) (result : Result Report NoMemory) → Puts t image (slot_device slots slot) answer a b written → Says (slot_report slots slot image) written result → Ended t (slot_plan slots slot image answer) a b result
+  pub ended_slot : (written : Result SlotWritten (Stop SlotRefusal)) (result : Result Report NoMemory) → Puts t system image answer a b written → Says (slot_report system.slots slot image) written result → Ended t (slot_plan system slot image answer) a b result
   ended_slot written result puts says =
-      ended_said t (aim answer) (quiet_slot slots slot image answer) a b (slot_report slots slot image) (keeps puts.kept) written result puts.fails (meets written puts) says
+      ended_said t (aim answer) (quiet_slot system slot image answer) a b (slot_report system.slots slot image) (keeps puts.kept) written result puts.fails (meets written puts) says
 
 -- ---- each command
 
 -- where the configuration was read, and no more
 quiet_command : (path : List ℕ) (a b : Past) (system : Configuration) (given : Option (List ℕ)) (command : Command) → ReadsOnce path a b → IsQuietSince (command_plan a b system given command) a b
 quiet_command path a b system given (WriteSlot slot image) once =
-    let answer = slot_answer system.slots given slot image (world_now a) in
-    quiet_since (slot_plan system.slots slot image answer) a b (quiet_slot system.slots slot image answer)
+    let answer = slot_answer system given slot image (world_now a) in
+    quiet_since (slot_plan system slot image answer) a b (quiet_slot system slot image answer)
 quiet_command path a b system given (Info bundle form) once = quiet_info form system bundle path a b b once
 quiet_command path a b system given (Status form detailed) once =
     quiet_since (status_plan form detailed system given (world_now a) (world_now b)) a b (quiet_report _ _)
@@ -94,7 +93,7 @@ quiet_system path a b run (Err refusal) once =
 -- then a command's plan is that of the start
 command_later : (path : List ℕ) (a b c : Past) (system : Configuration) (given : Option (List ℕ)) (command : Command) → ReadsOnce path a b → Grows b c → command_plan b c system given command ≡ command_plan a c system given command
 command_later path a b c system given (WriteSlot slot image) once bc =
-    ap (λ (w : World). slot_plan system.slots slot image (slot_answer system.slots given slot image w)) (once_now path a b once)
+    ap (λ (w : World). slot_plan system slot image (slot_answer system given slot image w)) (once_now path a b once)
 command_later path a b c system given (Info bundle form) once bc = info_later form system bundle path a b c once bc
 command_later path a b c system given (Status form detailed) once bc =
     ap (λ (w : World). status_plan form detailed system given w (world_now c)) (once_now path a b once)

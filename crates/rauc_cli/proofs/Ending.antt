@@ -12,12 +12,11 @@ use Rattle.machine.specs.declared.stops.Stop.TheVariants as stop
 use Rattle.machine.specs.declared.world.World.{World}
 use Rattle.machine.specs.Stops.{stop_fault}
 use Rattle.machine.specs.Past.{Moment, Past, Always, Fails, Grows, failed_since, first_failed, moments_since, world_now}
-use Rattle.machine.specs.Frames.{DiffersOnlyIn, Unchanged}
+use Rattle.machine.specs.Frames.{Unchanged}
 use Rattle.machine.specs.Runs.{LeftAlone, first_failed_but}
 use Rattle.machine.proofs.CallsMade.{but_joins, but_nothing}
 use Rattle.machine.proofs.Moments.{always_joins, always_weaker, made_none}
 use Rattle.machine.proofs.Joins.{now_unchanged, unchanged_none}
-use Rattle.machine.proofs.Only.{only_refl}
 use Rattle.machine.proofs.Running.{left_alone_refl}
 use Rattle.rauc_cli.specs.declared.outcome.Report.{Report}
 use Rattle.rauc_cli.specs.Lines.{fault_report, outside}
@@ -58,7 +57,7 @@ some_none kind e = cc
 way_same : (e : Effect) (w u : World) → u ≡ w → OnTheWay e w u
 way_same Nothing w u h = h
 way_same (Children spares children) w u h = subst (λ (x : World). LeftAlone spares children w x) (sym h) (left_alone_refl spares children w)
-way_same (Front image device written) w u h = subst (λ (x : World). DiffersOnlyIn device 0 written.size w x) (sym h) (only_refl device 0 written.size w)
+way_same (Front system image written) w u h = inl h
 way_same (Reading boot names) w u h =
     subst (λ (x : World). OnlyReadVars boot names w x) (sym h) (record { rest = refl; runs = (through_none boot (readings boot names) w).runs })
 way_same (Marking machine commands None) w u h =

@@ -18,7 +18,7 @@ use Rattle.rauc_cli.specs.declared.outcome.Report.{Report}
 use Rattle.rauc_cli.specs.Lines.{memory_report}
 use Rattle.rauc_cli.specs.Plans.{AfterAStop, Plan, ReportsBy, fault_in, plan_of}
 use Rattle.rauc_cli.specs.Ends.{AsksFor, CarriesOut, CommandTexts, Ended, HasCause, HasTexts, InfoTexts, MarkTexts, OutcomeCounted, Reports, RunTexts, SlotTexts, StandsAStop, StatusTexts}
-use Rattle.rauc_cli.proofs.Sparing.{running_planned}
+use Rattle.rauc_cli.proofs.Sparing.{running_planned, truth_planned}
 use Rattle.rauc_cli.proofs.Stopping.{held_planned}
 
 module _ (t : Bool) (words : List (List ℕ)) (a b : Past) where
@@ -53,7 +53,7 @@ module _ (t : Bool) (words : List (List ℕ)) (a b : Past) where
   pub stands : (result : Result Report NoMemory) → Ended t (plan_of words a b) a b result → StandsAStop t words (a, b)
   stands result ended =
       let held : IsTrue t → (v : World) → Held a b v → AfterAStop plan.effect (world_now a) v = λ tells v h. held_planned plan.effect a b (ended.on_the_way tells) v h in
-      record { held = held; running = running_planned t (command_of words) a b held }
+      record { held = held; running = running_planned t (command_of words) a b held; truth = truth_planned t (command_of words) a b held }
 
 -- the words
 asks_run : (run : Run) (outcome : Outcome) (report : Report) → RunTexts run outcome report → report.outcome ≡ outcome → AsksFor (Some (asked.Run run)) outcome

@@ -9,7 +9,6 @@ use Rattle.machine.specs.Spares.{has_disk}
 use Rattle.machine.specs.declared.world.World.{World}
 use Rattle.machine.specs.Crash.{is_in}
 use Rattle.machine.specs.World.{disk_byte, file, with_file}
-use Rattle.machine.specs.Frames.{InRange}
 use Rattle.machine.specs.Past.{Past, Held, world_now}
 use Rattle.keyfile.specs.Groups.{Group}
 use Rattle.keyfile.specs.Reading.{read_of}
@@ -20,7 +19,6 @@ use Rattle.system_conf.specs.declared.slot.Slot.{Slot}
 use Rattle.system_conf.specs.Configuration.{Configuration, configuration}
 use Rattle.system_conf.specs.Refusals.{bad_slot_name, bad_value, first_refusal, left_out, missing, same_device, too_many, unknown_key, unless_refused}
 use Rattle.conf_forms.proofs.FirstOf.{both_none}
-use Rattle.slot_graph.specs.Booted.{state_of}
 use Rattle.rauc_words.specs.Table.{conf_path, slot_word}
 use Rattle.boot_model.specs.Vars.{Variables}
 use Rattle.boot_model.specs.declared.boot_kind.BootKind.{BootKind}
@@ -38,13 +36,16 @@ use Rattle.rauc_words.specs.declared.asked.Command.TheVariants.{WriteSlot, Info,
 use Rattle.rauc_words.specs.declared.asked.Run.{Run}
 use Rattle.slot_writer.specs.declared.refusal.SlotRefusal.{SlotRefusal}
 use Rattle.slot_writer.specs.declared.refusal.SlotWritten.{SlotWritten}
-use Rattle.running_system.specs.Running.{RunningKept, is_in_use, what_runs}
+use Rattle.running_system.specs.Running.{RunningKept, what_runs}
 use Rattle.slot_writer.specs.Slots.{slot_answer}
 use Rattle.running_system.proofs.SlotsKept.{kept_but}
-use Rattle.slot_writer.proofs.Sparing.{not_written}
+use Rattle.slot_writer.proofs.Sparing.{not_written, running_kept}
+use Rattle.slot_writer.proofs.StayingTrue.{truth_kept}
+use Rattle.slot_writer.proofs.Targets.{slot_there}
 use Rattle.rauc_cli.specs.Conf.{of_conf, of_file, of_groups, system_at, system_in}
 use Rattle.rauc_cli.specs.declared.conf.NoSystem.{NoSystem}
-use Rattle.rauc_cli.specs.Plans.{AfterAStop, Effect, From, Put, Nothing, Front, Children, Reading, Marking, asked_plan, booted_for, command_plan, mark_effect, marking_at, marking_with, slot_plan, slots_by, slots_for, system_plan}
+use Rattle.rauc_cli.specs.Ends.{TruthOf}
+use Rattle.rauc_cli.specs.Plans.{AfterAStop, Effect, From, Put, Nothing, Front, Children, Reading, Marking, asked_plan, booted_for, command_plan, given_by, mark_effect, marking_at, marking_with, slot_plan, slots_by, slots_for, system_plan}
 
 -- ---- the slots of a configuration have devices of their own
 
@@ -78,13 +79,6 @@ alone_in_file None system e = absurd (cc)
 
 -- ---- no plan writes a slot that runs
 
-effect_device : Effect → List ℕ
-effect_device Nothing = []
-effect_device (Front image device written) = device
-effect_device (Children spares children) = []
-effect_device (Reading boot names) = []
-effect_device (Marking machine commands put) = []
-
 -- a mark writes no device, and runs no other children
 pub data IsMarking : Effect → Type 0 where
   not_at_all : IsMarking Nothing
@@ -105,7 +99,7 @@ by_choice machine system act (Err why) clock w = not_at_all
 mark_changes : (a c : Past) (given : Option (List ℕ)) (system : Configuration) (act : Action) (who : Option (List ℕ)) → IsMarking (command_plan a c system given (Mark act who)).effect
 mark_changes a c given system act who = by_choice a.boot system act (choice system.slots given (slot_word who) (world_now a)) (clock_since a c) (world_now a)
 
-no_front : {e : Effect} {image device : List ℕ} {written : SlotWritten} → IsMarking e → e ≡ Front image device written → ⊥
+no_front : {e : Effect} {system : Configuration} {image : List ℕ} {written : SlotWritten} → IsMarking e → e ≡ Front system image written → ⊥
 no_front not_at_all e = cc
 no_front (by_commands machine commands put) e = cc
 
@@ -113,43 +107,52 @@ no_children : {e : Effect} {spares : Spares} {children : List Child} → IsMarki
 no_children not_at_all e = cc
 no_children (by_commands machine commands put) e = cc
 
-module _ (a c : Past) (given : Option (List ℕ)) (image' device : List ℕ) (written : SlotWritten) (at : ℕ) (slot : Slot) (same : slot.device ≡ device) where
-  abbrev IsBusyIn : List Slot → Type 0
-  IsBusyIn slots = (slice_get slots at ≡ Some slot) × IsTrue (is_in_use (state_of slots (what_runs slots given (world_now a)) at))
+-- these are the slots of a system, and what was written to one of them is the answer of write-slot
+pub record WritesSlot (slots : List Slot) (given : Option (List ℕ)) (w : World) (system : Configuration) (written : SlotWritten) : Type 0 where
+  pub has : slots ≡ system.slots
+  pub alone : same_device system.slots ≡ None
+  pub name : List ℕ
+  pub image : List ℕ
+  pub answers : slot_answer system given name image w ≡ Ok written
+
+module _ (a c : Past) (given : Option (List ℕ)) (system : Configuration) (image' : List ℕ) (written : SlotWritten) where
+  abbrev Writes : Configuration → Type 0
+  Writes s = WritesSlot s.slots given (world_now a) system written
 
   abbrev front : Effect
-  front = Front image' device written
+  front = Front system image' written
 
-  by_answer : (system : Configuration) (name image : List ℕ) (r : Result SlotWritten SlotRefusal) → same_device system.slots ≡ None → IsBusyIn system.slots → slot_answer system.slots given name image (world_now a) ≡ r → (slot_plan system.slots name image r).effect ≡ front → ⊥
-  unfolding effect_device
-  by_answer system name image (Ok done) alone busy is e =
-      not_written system.slots given name image (world_now a) done alone at slot busy.0 busy.1 is (same ∙ sym (ap effect_device e))
-  by_answer system name image (Err refusal) alone busy is e = let bad : ⊥ = cc in bad
+  by_answer : (s : Configuration) (name image : List ℕ) (r : Result SlotWritten SlotRefusal) → same_device s.slots ≡ None → slot_answer s given name image (world_now a) ≡ r → (slot_plan s name image r).effect ≡ front → Writes s
+  by_answer s name image (Ok done) alone is e =
+      let same : s ≡ system = cc in
+      let here : done ≡ written = cc in
+      subst (λ (x : Configuration). WritesSlot s.slots given (world_now a) x written) same
+      (record { has = refl; alone = alone; name = name; image = image; answers = is ∙ ap (λ (x : SlotWritten). Ok x) here })
+  by_answer s name image (Err refusal) alone is e = let bad : ⊥ = cc in absurd bad
 
-  by_command : (system : Configuration) (command : Command) → same_device system.slots ≡ None → IsBusyIn system.slots → (command_plan a c system given command).effect ≡ front → ⊥
-  by_command system (Info bundle form) alone busy e = let bad : ⊥ = cc in bad
-  by_command system (Status form detailed) alone busy e = let bad : ⊥ = cc in bad
-  by_command system (Mark act who) alone busy e = no_front (mark_changes a c given system act who) e
-  by_command system (WriteSlot name image) alone busy e = by_answer system name image (slot_answer system.slots given name image (world_now a)) alone busy refl e
+  by_command : (s : Configuration) (command : Command) → same_device s.slots ≡ None → (command_plan a c s given command).effect ≡ front → Writes s
+  by_command s (Info bundle form) alone e = let bad : ⊥ = cc in absurd bad
+  by_command s (Status form detailed) alone e = let bad : ⊥ = cc in absurd bad
+  by_command s (Mark act who) alone e = absurd (no_front (mark_changes a c given s act who) e)
+  by_command s (WriteSlot name image) alone e = by_answer s name image (slot_answer s given name image (world_now a)) alone refl e
 
-by_system : (a c : Past) (run : Run) (image' device : List ℕ) (written : SlotWritten) (at : ℕ) (slot : Slot) → slot.device ≡ device → (r : Result Configuration NoSystem) → ((system : Configuration) → r ≡ Ok system → same_device system.slots ≡ None)
-    → slice_get (slots_by r) at ≡ Some slot → IsTrue (is_in_use (state_of (slots_by r) (what_runs (slots_by r) run.place.given (world_now a)) at)) → (system_plan a c run r).effect ≡ Front image' device written → ⊥
-by_system a c run image' device written at slot same (Ok system) alone there busy e =
-    by_command a c run.place.given image' device written at slot same system run.command (alone system refl) (there, busy) e
-by_system a c run image' device written at slot same (Err refusal) alone there busy e = let bad : ⊥ = cc in bad
+by_system : (a c : Past) (run : Run) (system : Configuration) (image' : List ℕ) (written : SlotWritten) (r : Result Configuration NoSystem) → ((s : Configuration) → r ≡ Ok s → same_device s.slots ≡ None)
+    → (system_plan a c run r).effect ≡ Front system image' written → WritesSlot (slots_by r) run.place.given (world_now a) system written
+by_system a c run system image' written (Ok s) alone e = by_command a c run.place.given system image' written s run.command (alone s refl) e
+by_system a c run system image' written (Err refusal) alone e = let bad : ⊥ = cc in absurd bad
 
-plan_spares : (a c : Past) (asked : Option Asked) (image' device : List ℕ) (written : SlotWritten) → (asked_plan a c asked).effect ≡ Front image' device written
-    → (at : ℕ) (slot : Slot) → slice_get (slots_for asked (world_now a)) at ≡ Some slot → IsTrue (is_in_use (state_of (slots_for asked (world_now a)) (booted_for asked (world_now a)) at)) → slot.device ≡ device → ⊥
-plan_spares a c (Some (asked.Run run)) image' device written e at slot there busy same =
-    by_system a c run image' device written at slot same (system_at (world_now a) (conf_path run.place)) (λ system is. alone_in_file (file (world_now a) (conf_path run.place)) system is) there busy e
-plan_spares a c (Some asked.Help) image' device written e at slot there busy same = let bad : ⊥ = cc in bad
-plan_spares a c None image' device written e at slot there busy same = let bad : ⊥ = cc in bad
+plan_writes : (a c : Past) (asked : Option Asked) (system : Configuration) (image' : List ℕ) (written : SlotWritten) → (asked_plan a c asked).effect ≡ Front system image' written
+    → WritesSlot (slots_for asked (world_now a)) (given_by asked) (world_now a) system written
+plan_writes a c (Some (asked.Run run)) system image' written e =
+    by_system a c run system image' written (system_at (world_now a) (conf_path run.place)) (λ s is. alone_in_file (file (world_now a) (conf_path run.place)) s is) e
+plan_writes a c (Some asked.Help) system image' written e = let bad : ⊥ = cc in absurd bad
+plan_writes a c None system image' written e = let bad : ⊥ = cc in absurd bad
 
 -- ---- what its children leave alone has all slots
 
 effect_spares : Effect → Spares
 effect_spares Nothing = record { disks = []; files = []; boot = false }
-effect_spares (Front image device written) = record { disks = []; files = []; boot = false }
+effect_spares (Front system image written) = record { disks = []; files = []; boot = false }
 effect_spares (Children spares children) = spares
 effect_spares (Reading boot names) = record { disks = []; files = []; boot = false }
 effect_spares (Marking machine commands put) = record { disks = []; files = []; boot = false }
@@ -166,13 +169,13 @@ has_device (s ∷ ss) (suc at) slot e = or_later (bytes_eq s.device slot.device)
     or_later false b h = h
 
 module _ (a c : Past) (spares : Spares) (children : List Child) (at : ℕ) (slot : Slot) where
-  answer_spares : (slots : List Slot) (name image : List ℕ) (r : Result SlotWritten SlotRefusal) → (slot_plan slots name image r).effect ≡ Children spares children → ⊥
-  answer_spares slots name image (Ok written) e = let bad : ⊥ = cc in bad
-  answer_spares slots name image (Err refusal) e = let bad : ⊥ = cc in bad
+  answer_spares : (system : Configuration) (name image : List ℕ) (r : Result SlotWritten SlotRefusal) → (slot_plan system name image r).effect ≡ Children spares children → ⊥
+  answer_spares system name image (Ok written) e = let bad : ⊥ = cc in bad
+  answer_spares system name image (Err refusal) e = let bad : ⊥ = cc in bad
 
   command_spares : (given : Option (List ℕ)) (system : Configuration) (command : Command) → (command_plan a c system given command).effect ≡ Children spares children → slice_get system.slots at ≡ Some slot → IsTrue (has_disk spares slot.device)
   unfolding effect_spares
-  command_spares given system (WriteSlot name image) e there = absurd (answer_spares system.slots name image (slot_answer system.slots given name image (world_now a)) e)
+  command_spares given system (WriteSlot name image) e there = absurd (answer_spares system name image (slot_answer system given name image (world_now a)) e)
   command_spares given system (Info bundle form) e there =
       subst (λ (s : Spares). IsTrue (has_disk s slot.device)) (ap effect_spares e) (has_device system.slots at slot there)
   command_spares given system (Status form detailed) e there = let bad : ⊥ = cc in absurd bad
@@ -193,9 +196,12 @@ unfolding with_file
 running_planned t asked a c left = by (asked_plan a c asked).effect refl left
   where
     by : (e : Effect) → (asked_plan a c asked).effect ≡ e → (IsTrue t → (v : World) → Held a c v → AfterAStop e (world_now a) v) → RunningKept t (slots_for asked (world_now a)) (booted_for asked (world_now a)) a c
-    by (Front image device written) is left =
-        kept_but t (slots_for asked (world_now a)) (booted_for asked (world_now a)) a c (InRange device 0 written.size)
-        (λ at slot there used i touched. plan_spares a c asked image device written is at slot there used touched.0) left
+    by (Front system image written) is left =
+        let writes = plan_writes a c asked system image written is in
+        subst (λ (slots : List Slot). RunningKept t slots (what_runs slots (given_by asked) (world_now a)) a c) (sym writes.has)
+        (running_kept t system (what_runs system.slots (given_by asked) (world_now a)) a c (Ok written)
+        (λ other e at slot there used same. not_written system (given_by asked) writes.name writes.image (world_now a) other writes.alone at slot there used (writes.answers ∙ e) same)
+        (record { each = left }))
     by (Children spares children) is left = record {
       each = λ told v held at slot there used i settled. (left told v held).bytes slot.device (asked_spares a c spares children at slot asked is there) i settled;
     }
@@ -217,3 +223,18 @@ running_planned t asked a c left = by (asked_plan a c asked).effect refl left
         either cs v slot i settled (inr with) = with.bytes slot.device i settled
     by Nothing is left =
         kept_but t (slots_for asked (world_now a)) (booted_for asked (world_now a)) a c (λ path i. ⊥) (λ at slot there used i touched. touched) left
+
+-- and where a slot is written, what the status file says of a slot stays true
+pub truth_planned : (t : Bool) (asked : Option Asked) (a c : Past) → (IsTrue t → (v : World) → Held a c v → AfterAStop (asked_plan a c asked).effect (world_now a) v) → TruthOf (asked_plan a c asked).effect t a c
+truth_planned t asked a c left = by (asked_plan a c asked).effect refl left
+  where
+    by : (e : Effect) → (asked_plan a c asked).effect ≡ e → (IsTrue t → (v : World) → Held a c v → AfterAStop e (world_now a) v) → TruthOf e t a c
+    by (Front system image written) is left =
+        let writes = plan_writes a c asked system image written is in
+        truth_kept t system (Ok written) a c writes.alone
+        (λ slot other e. slot_there system (given_by asked) writes.image (world_now a) other writes.name slot (writes.answers ∙ e))
+        (record { each = left })
+    by (Children spares children) is left = tt
+    by (Reading boot names) is left = tt
+    by (Marking machine commands put) is left = tt
+    by Nothing is left = tt

@@ -1,15 +1,16 @@
 -- What a stop may leave.
-use Rattle.std.proofs.Common.{inl, inr, ℕ, List, [], Option, Some, None, subst, sym, arith}
+use Rattle.std.proofs.Common.{inl, inr, ℕ, List, [], Option, Some, None, Ok, subst, sym, arith}
 use Rattle.machine.specs.declared.world.World.{World}
 use Rattle.machine.specs.World.{with_file}
 use Rattle.boot_backends.specs.Through.{StoppedThrough, Through}
 use Rattle.boot_backends.proofs.Callers.{stopped}
 use Rattle.machine.specs.Crash.{Crash}
-use Rattle.machine.specs.Frames.{InRange, DiffersOnlyIn, SameBut}
+use Rattle.machine.specs.Frames.{InRange, SameBut}
 use Rattle.machine.specs.Past.{Past, Always, Held, world_now}
 use Rattle.machine.proofs.Moments.{held_of}
 use Rattle.machine.proofs.Only.{left_only, only_refl, same_but_wider}
 use Rattle.machine.proofs.Running.{left_by_a_stop}
+use Rattle.slot_writer.proofs.Stopping.{put_left}
 use Rattle.rauc_cli.specs.Plans.{Effect, Nothing, Front, Children, Reading, Marking, AfterAStop, From, OnTheWay}
 
 no_byte : (path : List ℕ) (i : ℕ) → InRange [] 0 0 path i → ⊥
@@ -21,7 +22,7 @@ same_stopped u v crash = same_but_wider (InRange [] 0 0) (λ path i. ⊥) u v no
 
 after_a_stop : (e : Effect) (w u v : World) → OnTheWay e w u → Crash u v → AfterAStop e w v
 after_a_stop Nothing w u v same crash = same_stopped w v (subst (λ (x : World). Crash x v) same crash)
-after_a_stop (Front image device written) w u v only crash = left_only device 0 written.size w u v only crash
+after_a_stop (Front system image written) w u v kept crash = put_left system (Ok written) w u v kept crash
 after_a_stop (Children spares children) w u v left crash = left_by_a_stop spares children w u v left crash
 after_a_stop (Reading boot names) w u v only crash = (u, only, same_stopped u v crash)
 after_a_stop (Marking machine commands None) w u v way crash = (way.0, stopped machine (commands way.0) w u v way.1 crash)

@@ -3,7 +3,6 @@ use Rattle.std.specs.Prelude.{◌≡◌, ◌≤◌, ◌⊎◌, ℕ, Bool, IsTrue
 use Rattle.updater_text.specs.Counts.{CountRose}
 use Rattle.updater_text.specs.Sinks.{Shown, WritesBoth}
 use Rattle.updater_text.specs.declared.stops.NoMemory.{NoMemory}
-use Rattle.updater_text.specs.declared.digest.Digest.{Digest}
 use Rattle.machine.specs.declared.stops.Stop.{Stop}
 use Rattle.machine.specs.declared.stops.Stop.TheVariants as stop
 use Rattle.machine.specs.declared.world.World.{World}
@@ -32,19 +31,20 @@ use Rattle.slot_writer.specs.declared.refusal.SlotRefusal.{SlotRefusal}
 use Rattle.slot_writer.specs.declared.refusal.SlotWritten.{SlotWritten}
 use Rattle.slot_writer.specs.Checks.{NamesSlot}
 use Rattle.running_system.specs.Running.{RunningKept}
+use Rattle.status_file.specs.Truth.{TruthKept}
 use Rattle.rauc_cli.specs.declared.conf.NoSystem.TheVariants.{Missing, Bad}
 use Rattle.rauc_cli.specs.declared.outcome.Outcome.{Outcome}
 use Rattle.rauc_cli.specs.declared.outcome.Outcome.TheVariants as end
 use Rattle.rauc_cli.specs.declared.outcome.Report.{Report}
 use Rattle.rauc_cli.specs.declared.outcome.Finish.{Finish}
 use Rattle.rauc_cli.specs.Lines.{boot_refusal_report, closing_warnings, fault_report, help_report, info_refusal_report, mark_refusal_report, marked_report, memory_report, no_system_report, outside, slot_refusal_report, told_report, usage_report, view_report, written_report}
-use Rattle.rauc_cli.specs.Plans.{Plan, AfterAStop, AtTheEnd, IsPlanned, OnTheWay, booted_for, fault_in, plan_of, slots_for}
+use Rattle.rauc_cli.specs.Plans.{Effect, Front, Plan, AfterAStop, AtTheEnd, IsPlanned, OnTheWay, booted_for, fault_in, plan_of, slots_for}
 
 -- ---- texts: told or not, a report's texts are those of its outcome
 
 -- write-slot, by the outcome; a slot that a refusal names by its place has the name that the words give
 abbrev pub SlotTexts : List ℕ → List ℕ → Outcome → Report → Type 0
-SlotTexts slot image end.Done report = (size : ℕ) × (digest : Digest) × (report ≡ written_report slot size digest.0)
+SlotTexts slot image end.Done report = (written : SlotWritten) × (report ≡ written_report slot written)
 SlotTexts slot image (end.Slot refusal) report = (slots : List Slot) × NamesSlot slots slot image refusal × (report ≡ slot_refusal_report slots image refusal)
 SlotTexts slot image (end.Outside kind) report = report ≡ outside kind
 SlotTexts slot image outcome report = ⊥
@@ -143,10 +143,16 @@ pub record CarriesOut (tells : Bool) (words : List (List ℕ)) (past : Past × P
   pub on_the_way : IsTrue tells → Always past.0 past.1 (OnTheWay (plan_of words past.0 past.1).effect (world_now past.0))
   pub at_the_end : IsTrue tells → outcome ≡ end.Done → AtTheEnd (plan_of words past.0 past.1).effect (world_now past.0) (world_now past.1)
 
+-- where a slot is written: what the status file says of a slot stays true
+abbrev pub TruthOf : Effect → Bool → Past → Past → Type 0
+TruthOf (Front system image written) tells old new = TruthKept tells system old new
+TruthOf effect tells old new = Unit {0}
+
 -- where told, and wherever the power stops: only what the plan may change has changed, and what runs keeps its bytes
 pub record StandsAStop (tells : Bool) (words : List (List ℕ)) (past : Past × Past) : Type 0 where
   pub held : IsTrue tells → (v : World) → Held past.0 past.1 v → AfterAStop (plan_of words past.0 past.1).effect (world_now past.0) v
   pub running : RunningKept tells (slots_for (command_of words) (world_now past.0)) (booted_for (command_of words) (world_now past.0)) past.0 past.1
+  pub truth : TruthOf (plan_of words past.0 past.1).effect tells past.0 past.1
 
 -- told or not: `Help` comes exactly where the words ask for help, and `Usage` exactly where they ask for nothing
 abbrev pub AsksFor : Option Asked → Outcome → Type 0

@@ -49,9 +49,13 @@ written_head slot size = codes "slot " ++ (slot ++ (codes " written: " ++ (decim
 abbrev pub written_line : List ℕ → ℕ → List ℕ → List ℕ
 written_line slot size digest = written_head slot size ++ encode_lower digest ++ codes "\n"
 
--- the report of it
-abbrev pub written_report : List ℕ → ℕ → List ℕ → Report
-written_report slot size digest = record { outcome = end.Done; out = written_line slot size digest; err = [] }
+-- the warning of a status file that cannot be read
+abbrev pub unread_warning : Bool → List ℕ
+unread_warning unread = text_if unread (codes "warning: status file unreadable\n")
+
+-- the report of a slot that was written
+abbrev pub written_report : List ℕ → SlotWritten → Report
+written_report slot written = record { outcome = end.Done; out = written_line slot written.size written.digest.0; err = unread_warning written.book_unread }
 
 abbrev pub fault_word : Fault → List ℕ
 fault_word fault.Read = codes "read"
@@ -143,14 +147,10 @@ slot_refusal_report slots image refusal = error_report (end.Slot refusal) (slot_
 
 -- what came of write-slot
 abbrev pub slot_report : List Slot → List ℕ → List ℕ → Result SlotWritten SlotRefusal → Report
-slot_report slots slot image (Ok written) = written_report slot written.size written.digest.0
+slot_report slots slot image (Ok written) = written_report slot written
 slot_report slots slot image (Err refusal) = slot_refusal_report slots image refusal
 
 -- ---- status, and marks
-
--- the warning of a status file that cannot be read
-abbrev pub unread_warning : Bool → List ℕ
-unread_warning unread = text_if unread (codes "warning: status file unreadable\n")
 
 -- what is told of the slots
 abbrev pub view_report : Form → Bool → Configuration → StatusView → Report

@@ -16,8 +16,7 @@ use Rattle.machine.specs.declared.world.Child.{Child}
 use Rattle.machine.specs.declared.world.Spares.{Spares}
 use Rattle.machine.specs.Past.{Call, Past, moments_since, world_now}
 use Rattle.machine.specs.Runs.{LeftAlone, LeftByAStop, first_failed_but, is_run_of, runs_since}
-use Rattle.machine.specs.Frames.{DiffersOnlyIn, InRange, SameBut}
-use Rattle.raw_writer.specs.Whole.{IsWritten}
+use Rattle.machine.specs.Frames.{SameBut}
 use Rattle.rauc_words.specs.declared.asked.Asked.{Asked}
 use Rattle.rauc_words.specs.declared.asked.Asked.TheVariants as asked
 use Rattle.rauc_words.specs.declared.asked.Command.{Command}
@@ -47,7 +46,7 @@ use Rattle.manifest.specs.Contents.{Content}
 use Rattle.mark_report.specs.declared.bundle_info.InfoRefusal.{InfoRefusal}
 use Rattle.mark_report.specs.Opening.{info_children, info_in}
 use Rattle.running_system.specs.Running.{what_runs}
-use Rattle.slot_writer.specs.Slots.{piece, slot_answer, slot_device}
+use Rattle.slot_writer.specs.Slots.{IsPut, PutKept, PutStopped, slot_answer}
 use Rattle.rauc_cli.specs.declared.conf.NoSystem.{NoSystem}
 use Rattle.rauc_cli.specs.declared.outcome.Report.{Report}
 use Rattle.rauc_cli.specs.Conf.{system_at}
@@ -60,13 +59,13 @@ abbrev pub Put : Type 0
 Put = List ℕ × List ℕ
 
 -- nothing
--- or the front of a device
+-- or the front of the device of one slot, once the status file says that an update of it has begun
 -- or what these children need not leave alone
 -- or nothing but that what reads the variables of this boot loader is run
 -- or the variables of the machine's boot loader, by these commands, whatever was read before; and this file, where one is put
 pub data Effect : Type 0 where
   Nothing : Effect
-  Front : (image device : List ℕ) (written : SlotWritten) → Effect
+  Front : (system : Configuration) (image : List ℕ) (written : SlotWritten) → Effect
   Children : (spares : Spares) (children : List Child) → Effect
   Reading : (boot : BootKind) (names : List (List ℕ)) → Effect
   Marking : (machine : BootKind) (commands : Variables → List BootCommand) (put : Option Put) → Effect
@@ -79,7 +78,7 @@ From (Some put) w P = P w ⊎ P (with_file w put.0 put.1)
 -- each world u on the way, inside the calls too
 abbrev pub OnTheWay : Effect → World → World → Type 0
 OnTheWay Nothing w u = u ≡ w
-OnTheWay (Front image device written) w u = DiffersOnlyIn device 0 written.size w u
+OnTheWay (Front system image written) w u = PutKept system (Ok written) w u
 OnTheWay (Children spares children) w u = LeftAlone spares children w u
 OnTheWay (Reading boot names) w u = OnlyReadVars boot names w u
 OnTheWay (Marking machine commands put) w u = (read : Variables) × From put w (λ x. Through machine (commands read) x u)
@@ -87,7 +86,7 @@ OnTheWay (Marking machine commands put) w u = (read : Variables) × From put w (
 -- the world v at the end, where all was done
 abbrev pub AtTheEnd : Effect → World → World → Type 0
 AtTheEnd Nothing w v = v ≡ w
-AtTheEnd (Front image device written) w v = IsWritten image device piece written.size written.digest w v
+AtTheEnd (Front system image written) w v = IsPut system image written w v
 AtTheEnd (Children spares children) w v = LeftAlone spares children w v
 AtTheEnd (Reading boot names) w v = OnlyReadVars boot names w v
 AtTheEnd (Marking machine commands put) w v = (read : Variables) × From put w (λ x. Through machine (commands read) x v)
@@ -95,7 +94,7 @@ AtTheEnd (Marking machine commands put) w v = (read : Variables) × From put w (
 -- the world v that a stop of the power may leave
 abbrev pub AfterAStop : Effect → World → World → Type 0
 AfterAStop Nothing w v = SameBut (λ path i. ⊥) w v
-AfterAStop (Front image device written) w v = SameBut (InRange device 0 written.size) w v
+AfterAStop (Front system image written) w v = PutStopped system (Ok written) w v
 AfterAStop (Children spares children) w v = LeftByAStop spares children w v
 AfterAStop (Reading boot names) w v = (u : World) × OnlyReadVars boot names w u × SameBut (λ path i. ⊥) u v
 AfterAStop (Marking machine commands put) w v = (read : Variables) × From put w (λ x. StoppedThrough machine (commands read) x v)
@@ -134,9 +133,9 @@ IsPlanned plan old new report = ReportsBy plan (fault_in plan old new) report
 -- ---- the plan of each command
 
 -- write-slot, by its answer
-abbrev pub slot_plan : List Slot → List ℕ → List ℕ → Result SlotWritten SlotRefusal → Plan
-slot_plan slots slot image (Ok written) = to_report (slot_report slots slot image (Ok written)) (Front image (slot_device slots slot) written)
-slot_plan slots slot image (Err refusal) = to_report (slot_report slots slot image (Err refusal)) Nothing
+abbrev pub slot_plan : Configuration → List ℕ → List ℕ → Result SlotWritten SlotRefusal → Plan
+slot_plan system slot image (Ok written) = to_report (slot_report system.slots slot image (Ok written)) (Front system image written)
+slot_plan system slot image (Err refusal) = to_report (slot_report system.slots slot image (Err refusal)) Nothing
 
 -- info, by what came of the unmount and by its answer; an unmount that failed is a warning, and no fault
 abbrev pub info_plan : Form → Configuration → List ℕ → Closing → Option (Result Content InfoRefusal) → Plan
@@ -192,7 +191,7 @@ mark_plan machine system act choice clock w v =
 -- each command, with its configuration and the name that counts as booted, where one is given
 abbrev pub command_plan : Past → Past → Configuration → Option (List ℕ) → Command → Plan
 command_plan old new system given (WriteSlot slot image) =
-    slot_plan system.slots slot image (slot_answer system.slots given slot image (world_now old))
+    slot_plan system slot image (slot_answer system given slot image (world_now old))
 command_plan old new system given (Info bundle form) =
     info_plan form system bundle (closing_in (umount_child system) old new) (info_in system old new)
 command_plan old new system given (Status form detailed) = status_plan form detailed system given (world_now old) (world_now new)

@@ -1,11 +1,11 @@
 ghost use Rattle.std.specs.Prelude.{◌≡◌, ◌++◌, IfOk, codes, string_bytes};
-ghost use Rattle.rauc_cli.specs.Lines.{bad_conf_cause, error_report, fault_cause, fault_word, help_report, no_system_report, outside, slot_refusal_report, system_cause, system_outcome, usage_report, written_head, written_line, written_report};
+ghost use Rattle.rauc_cli.specs.Lines.{bad_conf_cause, error_report, fault_cause, fault_word, help_report, no_system_report, outside, slot_refusal_report, system_cause, system_outcome, unread_warning, usage_report, written_head, written_line, written_report};
 
 use crate::outcome::Report;
 use crate::{BadConf, NoSystem, Outcome};
 use keyfile::key_cause;
 use machine::{Fault, copy_bytes};
-use slot_writer::{SlotRefusal, slot_cause};
+use slot_writer::{SlotRefusal, SlotWritten, slot_cause};
 use std::alloc::{AllocError, Global};
 use system_conf::{System, conf_cause};
 use updater_text::{Digest, Items, NoMemory, Text};
@@ -49,20 +49,27 @@ fn written_line(
     Ok(Items::from_vec(line.into_bytes()))
 }
 
-/// The report of a slot that was written.
-pub fn written_report(
-    alloc: Global,
-    slot: &str,
-    size: u64,
-    digest: &Digest,
-) -> Result<Report, NoMemory>
-    ensures { IfOk result (λ r. r ≡ written_report slot.now size digest.now.0) }
+/// The warning of a status file that cannot be read.
+pub fn unread_warning(alloc: Global, unread: bool) -> Result<Text, NoMemory>
+    ensures { IfOk result (λ t. t ≡ unread_warning unread) }
 {
-    let out = written_line(alloc, slot, size, digest)?;
+    if unread {
+        Text::new(alloc, "warning: status file unreadable\n")
+    } else {
+        Ok(Text::empty(alloc))
+    }
+}
+
+/// The report of a slot that was written.
+pub fn written_report(alloc: Global, slot: &str, written: &SlotWritten) -> Result<Report, NoMemory>
+    ensures { IfOk result (λ r. r ≡ written_report slot.now written.now) }
+{
+    let out = written_line(alloc, slot, written.size, &written.digest)?;
+    let err = unread_warning(alloc, written.book_unread)?;
     Ok(Report {
         outcome: Outcome::Done,
         out,
-        err: Text::empty(alloc),
+        err,
     })
 }
 

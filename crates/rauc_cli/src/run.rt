@@ -35,7 +35,10 @@ fn run_write_slot<M: Machine>(
     slot: &str,
     image: &str,
 ) -> Result<Report, NoMemory>
-    ensures ended { Ended M.tells (slot_plan system.now.slots slot.now image.now (slot_answer system.now.slots (option_map (λ name. name.now) given.entry) slot.now image.now (world_now (M.past m.old)))) (M.past m.old) (M.past m.new) result }
+    ensures ended { let conf = system_configuration system.now in
+        let name = option_map (λ name. name.now) given.entry in
+        let answer = slot_answer conf name slot.now image.now (world_now (M.past m.old)) in
+        Ended M.tells (slot_plan conf slot.now image.now answer) (M.past m.old) (M.past m.new) result }
     ensures texts { IfOk result (λ r. SlotTexts slot.now image.now r.outcome r) }
     ensures counts { OutcomeCounted (M.faults m.old) (M.faults m.new) (M.wants m.old) (M.wants m.new) (outcome_in result) }
 {

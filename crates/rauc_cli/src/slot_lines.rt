@@ -6,7 +6,7 @@ ghost use Rattle.rauc_cli.specs.Ends.{MarkTexts, Says, SlotTexts, StatusTexts};
 ghost use Rattle.rauc_cli.specs.Lines as spec;
 
 use crate::Outcome;
-use crate::lines::{error_report, outside, slot_refusal_report, written_report};
+use crate::lines::{error_report, outside, slot_refusal_report, unread_warning, written_report};
 use crate::outcome::Report;
 use boot_backends::BootRefusal;
 use machine::Stop;
@@ -16,18 +16,7 @@ use slot_writer::{SlotRefusal, SlotWritten};
 use status_report::{StatusView, status_text};
 use std::alloc::Global;
 use system_conf::System;
-use updater_text::{Items, NoMemory, Text};
-
-// The warning of a status file that cannot be read.
-fn unread_warning(alloc: Global, unread: bool) -> Result<Text, NoMemory>
-    ensures { IfOk result (λ t. t ≡ spec.unread_warning unread) }
-{
-    if unread {
-        Text::new(alloc, "warning: status file unreadable\n")
-    } else {
-        Ok(Text::empty(alloc))
-    }
-}
+use updater_text::{Items, NoMemory};
 
 // ---- status
 
@@ -132,7 +121,7 @@ pub fn slot_report(
     ensures texts { IfOk result (λ r. SlotTexts slot.now image.now r.outcome r) }
 {
     match written {
-        Ok(written) => written_report(alloc, slot, written.size, &written.digest),
+        Ok(written) => written_report(alloc, slot, &written),
         Err(Stop::Refused(refusal)) => slot_refusal_report(alloc, system, image, refusal),
         Err(Stop::Outside(kind)) => outside(alloc, kind),
         Err(Stop::NoMemory) => Err(NoMemory),

@@ -1,5 +1,9 @@
+pub mod Begun
 pub mod Checking
 pub mod Naming
 pub mod Putting
+pub mod Replacing
 pub mod Sparing
+pub mod StayingTrue
 pub mod Stopping
+pub mod Targets

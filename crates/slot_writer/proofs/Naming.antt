@@ -1,5 +1,5 @@
 -- A refusal names the slot and the image that were asked for.
-use Rattle.std.proofs.Common.{◌≡◌, ℕ, List, [], ◌∷◌, get_or, Option, Some, Result, Ok, Err, ◌∙◌, ap, bytes_eq}
+use Rattle.std.proofs.Common.{◌≡◌, ℕ, Bool, List, [], ◌∷◌, get_or, Option, Some, Result, Ok, Err, ◌∙◌, ap, bytes_eq}
 use Rattle.std.proofs.lemmas.List.Quantifiers.{position-Some}
 use Rattle.std.proofs.lemmas.Option.{slice_get-get_or}
 use Rattle.std.specs.Option.{option_map_or}
@@ -13,9 +13,10 @@ use Rattle.machine.specs.declared.stops.Stop.TheVariants.{Refused, Outside, NoMe
 use Rattle.slot_writer.specs.declared.refusal.SlotWritten.{SlotWritten}
 use Rattle.slot_writer.specs.Checks.{IfRefused, IsAbout, NamesSlot}
 use Rattle.updater_text.specs.declared.digest.Digest.{Digest}
+use Rattle.raw_writer.specs.declared.check.PutRefusal.{PutRefusal}
 use Rattle.raw_writer.specs.declared.whole.WholeStop.{WholeStop}
 use Rattle.raw_writer.specs.declared.whole.WholeStop.TheVariants as whole
-use Rattle.slot_writer.specs.Slots.{slot_named, whole_answer}
+use Rattle.slot_writer.specs.Slots.{image_stop, slot_named, whole_answer}
 
 named_there : (slots : List Slot) (name : List ℕ) (at : ℕ) → slot_named slots name ≡ Some at → name_at slots at ≡ name
 named_there [] name at is = absurd (cc)
@@ -42,8 +43,20 @@ named_as slots name image at (Err (Outside kind)) is about = tt
 named_as slots name image at (Err NoMemory) is about = tt
 
 -- a write that stopped names no slot
-pub whole_about : (slot size : ℕ) (image : List ℕ) (result : Result Digest WholeStop) → IfRefused (whole_answer slot size result) (IsAbout slot image)
-whole_about slot size image (Ok digest) = tt
-whole_about slot size image (Err (whole.Outside kind)) = tt
-whole_about slot size image (Err (whole.Short found)) = tt
-whole_about slot size image (Err whole.NoMemory) = tt
+pub whole_about : (slot size : ℕ) (unread : Bool) (image : List ℕ) (result : Result Digest WholeStop) → IfRefused (whole_answer slot size unread result) (IsAbout slot image)
+whole_about slot size unread image (Ok digest) = tt
+whole_about slot size unread image (Err (whole.Outside kind)) = tt
+whole_about slot size unread image (Err (whole.Short found)) = tt
+whole_about slot size unread image (Err whole.NoMemory) = tt
+
+-- nor does a check of the image
+pub image_about : (slot : ℕ) (image : List ℕ) (stop : Stop PutRefusal) → IfRefused {T = SlotWritten} (Err (image_stop stop)) (IsAbout slot image)
+image_about slot image (Refused refusal) = tt
+image_about slot image (Outside kind) = tt
+image_about slot image NoMemory = tt
+
+-- what a step refuses is refused by the whole
+pub about_passed : (stop : Stop SlotRefusal) (P : SlotRefusal → Type 0) → IfRefused {T = Unit {0}} (Err stop) P → IfRefused {T = SlotWritten} (Err stop) P
+about_passed (Refused refusal) P h = h
+about_passed (Outside kind) P h = tt
+about_passed NoMemory P h = tt

@@ -1,8 +1,10 @@
-//! Writing one image into one slot: why that is refused, and the write itself.
+//! Writing one image into one slot: why that is refused, what the status file notes of it before, and
+//! the write itself.
 #![tactic(auto)]
 
 mod cause;
 mod checks;
+mod noting;
 mod refusal;
 mod write;
 

@@ -25,11 +25,12 @@ pub enum SlotRefusal {
     Image(PutRefusal),
 }
 
-/// A slot that was written: its place among the slots, the image's length in bytes, and the SHA-256
-/// of what was written.
+/// A slot that was written: its place among the slots, the image's length in bytes, the SHA-256 of
+/// what was written, and whether there is a status file that could not be read.
 #[derive(Debug, Drop)]
 pub struct SlotWritten {
     pub slot: usize,
     pub size: u64,
     pub digest: Digest,
+    pub book_unread: bool,
 }
