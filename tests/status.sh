@@ -1,10 +1,10 @@
 #!/bin/sh
 # Runs `status` and the marks of slots by the built program on real files, with each boot loader by small
 # programs in POSIX sh, and with the real grub-editenv where it is installed: what it tells, which programs
-# it runs with what, what they leave, and what stands in the status file; status files that are long, not
-# readable or in the way; and a mark that is killed at each system call since it read the status file.
-# Needs a POSIX shell, coreutils, sed, awk and grep; what needs more is skipped by name. Its last line
-# counts the cases.
+# it runs with what, what they leave, and what stands in the status file; what write-slot notes there;
+# status files that are long, not readable or in the way; and a mark that is killed at each system call
+# since it read the status file. Needs a POSIX shell, coreutils, sed, awk and grep; what needs more is
+# skipped by name. Its last line counts the cases.
 # Use: tests/status.sh [PROGRAM]. Without a program it has make and rt build one first.
 set -u
 check=status
@@ -185,6 +185,32 @@ rm bin/fw_printenv
 as="env PATH=$scratch/bin"
 asks 2 'rauc: outside fault: run' mark-bad other
 as=''
+
+# ---- write-slot notes in a record of the slot that an update has begun
+loader bootloader=noop
+head -c 100 /dev/urandom > r.img
+old_digest=$(digest b)
+written="slot rootfs.1 written: 100 bytes, sha256 $(digest r.img)"
+lines '[other]' a=b '[slot.rootfs.1]' status=ok "sha256=$old_digest" size=4096 '[slot.rootfs.0]' status=ok > "$book"
+expect 0 "$written" write-slot --override-boot-slot=A -c c rootfs.1 r.img
+has "$book" '[slot.rootfs.0]' status=ok "
+[slot.rootfs.1]" status=update "sha256=$old_digest" size=4096
+same b r.img 100
+for text in '[slot.rootfs.0]
+status=ok' '[' ''; do
+  cp before b
+  lines "$text" > "$book"
+  [ "$text" != '[' ] || warning='warning: status file unreadable'
+  expect 0 "$written" write-slot --override-boot-slot=A -c c rootfs.1 r.img
+  warning=''
+  has "$book" "$text"
+done
+cp before b
+rm "$book"
+mkdir "$book"
+expect 2 'rauc: outside fault: read' write-slot --override-boot-slot=A -c c rootfs.1 r.img
+same b before
+rmdir "$book"
 
 # ---- status files that are long, faulty or in the way
 loader bootloader=grub grubenv=/env
