@@ -24,6 +24,7 @@ bench: $(program) build/hash_file
 	@bash bench/write_slot.sh $(program)
 	@bash bench/configuration.sh $(program)
 	@bash bench/manifest.sh $(program)
+	@bash bench/status.sh $(program)
 
 check:
 	.ci/run
