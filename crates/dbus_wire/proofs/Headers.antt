@@ -8,7 +8,7 @@ use Rattle.wire_value.proofs.Steps.{length-word}
 use Rattle.wire_value.proofs.Growing.{word_8}
 use Rattle.dbus_wire.specs.Spelling.{PlainMessage, order, field_type, header}
 
-gap_1 : (n : ℕ) → gap 1 n ≡ 0
+pub gap_1 : (n : ℕ) → gap 1 n ≡ 0
 unfolding gap
 gap_1 n = omega arith
 
@@ -31,7 +31,7 @@ gap_16 = refl
 pub field_is : IsItemType field_type
 field_is = inl (record { kind = ty_struct (ty_basic (fixed byte)) (and_kind ty_variant no_kinds); is = refl; arrays = omega arith; structs = omega arith })
 
-byte_is : IsType (121 ∷ [])
+pub byte_is : IsType (121 ∷ [])
 byte_is = record { kind = ty_basic (fixed byte); is = refl; arrays = omega arith; structs = omega arith }
 
 word_is : IsType (117 ∷ [])
@@ -65,7 +65,7 @@ module _ (little : Bool) where
   byte_text : (n x : ℕ) → x < 256 → spell little n (number byte x) ≡ x ∷ []
   byte_text n x lt = ap (λ (k : ℕ). zeros k ++ word little 1 x) (gap_1 n) ∙ word_8 little x lt
 
-  byte_first : (n x : ℕ) (vs : Plains) → x < 256 → spells little n (more (number byte x) vs) ≡ x ∷ spells little (n + 1) vs
+  pub byte_first : (n x : ℕ) (vs : Plains) → x < 256 → spells little n (more (number byte x) vs) ≡ x ∷ spells little (n + 1) vs
   byte_first n x vs lt = ap (λ (t : List ℕ). t ++ spells little (n + length t) vs) (byte_text n x lt)
 
   word_text : (n x : ℕ) → gap 4 n ≡ 0 → spell little n (number uint32 x) ≡ word little 4 x

@@ -6,3 +6,9 @@ pub mod ReadAgain
 pub mod ReadFound
 pub mod Answering
 pub mod ReadAnswers
+pub mod Checked
+pub mod OneForm
+pub mod Moved
+pub mod Folded
+pub mod Ordered
+pub mod Spelled

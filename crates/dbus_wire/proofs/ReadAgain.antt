@@ -17,7 +17,7 @@ use Rattle.dbus_wire.specs.Reading.{word_in, fields_at, body_at, is_sent, messag
 use Rattle.dbus_wire.proofs.Headers.{Head, head_found, head_len, items}
 use Rattle.dbus_wire.proofs.Stating.{message, front, tail_of, behind_16, serial_in, count_in}
 
-same_text : (s : List ℕ) → text_of (if_any s) ≡ s
+pub same_text : (s : List ℕ) → text_of (if_any s) ≡ s
 same_text [] = refl
 same_text (c ∷ s) = rw suc_is_not refl
 

@@ -110,10 +110,13 @@ abbrev pub settled : Fields → Fields
 settled h = record h { signature = if_any (signature_of h) }
 
 -- the fields that a kind of message has to have: a call, a return, an error and a signal
-abbrev pub has_needed : ℕ → Fields → Bool
-has_needed kind h =
-    if kind == 1 then is_some h.path && is_some h.member
-    else if kind == 2 then is_some h.reply_serial
-    else if kind == 3 then is_some h.error_name && is_some h.reply_serial
-    else if kind == 4 then is_some h.path && (is_some h.interface && is_some h.member)
+abbrev pub has_those : ℕ → Option (List ℕ) → Option (List ℕ) → Option (List ℕ) → Option (List ℕ) → Option ℕ → Bool
+has_those kind path interface member error_name reply_serial =
+    if kind == 1 then is_some path && is_some member
+    else if kind == 2 then is_some reply_serial
+    else if kind == 3 then is_some error_name && is_some reply_serial
+    else if kind == 4 then is_some path && (is_some interface && is_some member)
     else true
+
+abbrev pub has_needed : ℕ → Fields → Bool
+has_needed kind h = has_those kind h.path h.interface h.member h.error_name h.reply_serial

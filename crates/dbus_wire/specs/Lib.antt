@@ -5,3 +5,6 @@ pub mod Spelling
 pub mod Reading
 pub mod MessageView
 pub mod Answers
+pub mod InOrder
+pub mod Checking
+pub mod Laws

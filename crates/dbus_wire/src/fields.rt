@@ -160,17 +160,24 @@ impl Fields {
             None => &[],
         }
     }
+}
 
-    /// Whether the fields are there that a kind of message has to have.
-    pub fn has_needed(&self, kind: u8) -> bool
-        ensures { result ≡ spec.has_needed kind (plain_fields self.now) }
-    {
-        match kind {
-            1 => self.path.is_some() && self.member.is_some(),
-            2 => self.reply_serial.is_some(),
-            3 => self.error_name.is_some() && self.reply_serial.is_some(),
-            4 => self.path.is_some() && self.interface.is_some() && self.member.is_some(),
-            _ => true,
-        }
+/// Whether the fields are there that a kind of message has to have.
+pub fn has_needed(
+    kind: u8,
+    path: &Option<Text>,
+    interface: &Option<Text>,
+    member: &Option<Text>,
+    error_name: &Option<Text>,
+    reply_serial: Option<u32>,
+) -> bool
+    ensures { result ≡ spec.has_those kind path.now interface.now member.now error_name.now reply_serial }
+{
+    match kind {
+        1 => path.is_some() && member.is_some(),
+        2 => reply_serial.is_some(),
+        3 => error_name.is_some() && reply_serial.is_some(),
+        4 => path.is_some() && interface.is_some() && member.is_some(),
+        _ => true,
     }
 }

@@ -3,13 +3,16 @@
 #![tactic(auto)]
 
 mod fields;
+pub mod laws;
 mod message;
 mod names;
 mod read;
 mod reading;
 mod refusal;
 mod said;
+mod valid;
 
 pub use message::Message;
 pub use read::{Progress, read_message};
 pub use refusal::{WireRefusal, WriteRefusal};
+pub use valid::is_valid;

@@ -3,12 +3,13 @@
 ghost use Rattle.std.specs.Prelude.{◌≡◌, ◌+◌, ◌≤◌, ◌<◌, ℕ, length, IfSome, slice_index};
 ghost use Rattle.wire_value.specs.Gives.{Gives, at};
 ghost use Rattle.wire_value.specs.View.{views};
+ghost use Rattle.dbus_wire.specs.Fields as field_spec;
 ghost use Rattle.dbus_wire.specs.Fields.{settled, text_of};
 ghost use Rattle.dbus_wire.specs.FieldsView.{plain_fields};
 ghost use Rattle.dbus_wire.specs.MessageView.{plain};
 ghost use Rattle.dbus_wire.specs.Reading as spec;
 
-use crate::fields::Fields;
+use crate::fields::{Fields, has_needed};
 use crate::message::Message;
 use crate::said::said;
 use byteorder::{BigEndian, ByteOrder, LittleEndian};
@@ -66,6 +67,19 @@ pub fn stated_length(little: bool, bytes: &[u8]) -> u64
     start as u64 + u64::from(word_in(little, 4, bytes))
 }
 
+fn is_enough(kind: u8, fields: &Fields) -> bool
+    ensures { result ≡ field_spec.has_needed kind (plain_fields fields.now) }
+{
+    has_needed(
+        kind,
+        &fields.path,
+        &fields.interface,
+        &fields.member,
+        &fields.error_name,
+        fields.reply_serial,
+    )
+}
+
 // What the fields say that stand behind the first 16 bytes, and the place behind them.
 #[tactic(auto, using(crate::proofs::Headers::field_is), unfolding(crate::specs::Reading::fields_at))]
 fn fields_of<'a>(
@@ -90,7 +104,7 @@ fn fields_of<'a>(
     };
     let list = read_items(alloc, little, 63, b"(yv)", inside)?;
     let fields = said(alloc, &list)?;
-    if fields.has_needed(kind) {
+    if is_enough(kind, &fields) {
         Ok((fields, rest))
     } else {
         Err(ReadError::Malformed)
