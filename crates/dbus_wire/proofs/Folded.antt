@@ -356,35 +356,35 @@ module _ (little : Bool) (n c : ℕ) (h : Fields) where
   dropped_grows v g e = subst (λ (k : Fields). Grows n h k (field c v)) (some_is h g e) (record { sized = omega (arith, aligned_more n (ends n (field c v)) (grows n (field c v))); good = λ (w : Good h). w })
 
   from_9 : (v : Plain) (g : Fields) → IsValue little n (field c v) → cond (eqb c 9) (option_map (λ x. record h { fds = x }) (once h.fds (number_in v))) (Some h) ≡ Some g → Grows n h g (field c v)
-  from_9 v g valid e = elim (chosen (eqb c 9) (option_map (λ x. record h { fds = x }) (once h.fds (number_in v))) (Some h) g e) [ | inl a ↦ fds_grows v g valid a.1 | inr a ↦ dropped_grows v g a.1 ]
+  from_9 v g valid e = elim (chosen (eqb c 9) (option_map (λ x. record h { fds = x }) (once h.fds (number_in v))) (Some h) g e) [ inl a ↦ fds_grows v g valid a.1 | inr a ↦ dropped_grows v g a.1 ]
 
   from_8 : (v : Plain) (g : Fields) → IsValue little n (field c v) → cond (eqb c 8) (option_map (λ x. record h { signature = x }) (once h.signature (signature_in v))) (cond (eqb c 9) (option_map (λ x. record h { fds = x }) (once h.fds (number_in v))) (Some h)) ≡ Some g → Grows n h g (field c v)
-  from_8 v g valid e = elim (chosen (eqb c 8) (option_map (λ x. record h { signature = x }) (once h.signature (signature_in v))) (cond (eqb c 9) (option_map (λ x. record h { fds = x }) (once h.fds (number_in v))) (Some h)) g e) [ | inl a ↦ signature_grows v g valid a.1 | inr a ↦ from_9 v g valid a.1 ]
+  from_8 v g valid e = elim (chosen (eqb c 8) (option_map (λ x. record h { signature = x }) (once h.signature (signature_in v))) (cond (eqb c 9) (option_map (λ x. record h { fds = x }) (once h.fds (number_in v))) (Some h)) g e) [ inl a ↦ signature_grows v g valid a.1 | inr a ↦ from_9 v g valid a.1 ]
 
   from_7 : (v : Plain) (g : Fields) → IsValue little n (field c v) → cond (eqb c 7) (option_map (λ x. record h { sender = x }) (once h.sender (string_in v))) (cond (eqb c 8) (option_map (λ x. record h { signature = x }) (once h.signature (signature_in v))) (cond (eqb c 9) (option_map (λ x. record h { fds = x }) (once h.fds (number_in v))) (Some h))) ≡ Some g → Grows n h g (field c v)
-  from_7 v g valid e = elim (chosen (eqb c 7) (option_map (λ x. record h { sender = x }) (once h.sender (string_in v))) (cond (eqb c 8) (option_map (λ x. record h { signature = x }) (once h.signature (signature_in v))) (cond (eqb c 9) (option_map (λ x. record h { fds = x }) (once h.fds (number_in v))) (Some h))) g e) [ | inl a ↦ sender_grows v g valid a.1 | inr a ↦ from_8 v g valid a.1 ]
+  from_7 v g valid e = elim (chosen (eqb c 7) (option_map (λ x. record h { sender = x }) (once h.sender (string_in v))) (cond (eqb c 8) (option_map (λ x. record h { signature = x }) (once h.signature (signature_in v))) (cond (eqb c 9) (option_map (λ x. record h { fds = x }) (once h.fds (number_in v))) (Some h))) g e) [ inl a ↦ sender_grows v g valid a.1 | inr a ↦ from_8 v g valid a.1 ]
 
   from_6 : (v : Plain) (g : Fields) → IsValue little n (field c v) → cond (eqb c 6) (option_map (λ x. record h { destination = x }) (once h.destination (string_in v))) (cond (eqb c 7) (option_map (λ x. record h { sender = x }) (once h.sender (string_in v))) (cond (eqb c 8) (option_map (λ x. record h { signature = x }) (once h.signature (signature_in v))) (cond (eqb c 9) (option_map (λ x. record h { fds = x }) (once h.fds (number_in v))) (Some h)))) ≡ Some g → Grows n h g (field c v)
-  from_6 v g valid e = elim (chosen (eqb c 6) (option_map (λ x. record h { destination = x }) (once h.destination (string_in v))) (cond (eqb c 7) (option_map (λ x. record h { sender = x }) (once h.sender (string_in v))) (cond (eqb c 8) (option_map (λ x. record h { signature = x }) (once h.signature (signature_in v))) (cond (eqb c 9) (option_map (λ x. record h { fds = x }) (once h.fds (number_in v))) (Some h)))) g e) [ | inl a ↦ destination_grows v g valid a.1 | inr a ↦ from_7 v g valid a.1 ]
+  from_6 v g valid e = elim (chosen (eqb c 6) (option_map (λ x. record h { destination = x }) (once h.destination (string_in v))) (cond (eqb c 7) (option_map (λ x. record h { sender = x }) (once h.sender (string_in v))) (cond (eqb c 8) (option_map (λ x. record h { signature = x }) (once h.signature (signature_in v))) (cond (eqb c 9) (option_map (λ x. record h { fds = x }) (once h.fds (number_in v))) (Some h)))) g e) [ inl a ↦ destination_grows v g valid a.1 | inr a ↦ from_7 v g valid a.1 ]
 
   from_5 : (v : Plain) (g : Fields) → IsValue little n (field c v) → cond (eqb c 5) (option_map (λ x. record h { reply_serial = x }) (once h.reply_serial (serial_in v))) (cond (eqb c 6) (option_map (λ x. record h { destination = x }) (once h.destination (string_in v))) (cond (eqb c 7) (option_map (λ x. record h { sender = x }) (once h.sender (string_in v))) (cond (eqb c 8) (option_map (λ x. record h { signature = x }) (once h.signature (signature_in v))) (cond (eqb c 9) (option_map (λ x. record h { fds = x }) (once h.fds (number_in v))) (Some h))))) ≡ Some g → Grows n h g (field c v)
-  from_5 v g valid e = elim (chosen (eqb c 5) (option_map (λ x. record h { reply_serial = x }) (once h.reply_serial (serial_in v))) (cond (eqb c 6) (option_map (λ x. record h { destination = x }) (once h.destination (string_in v))) (cond (eqb c 7) (option_map (λ x. record h { sender = x }) (once h.sender (string_in v))) (cond (eqb c 8) (option_map (λ x. record h { signature = x }) (once h.signature (signature_in v))) (cond (eqb c 9) (option_map (λ x. record h { fds = x }) (once h.fds (number_in v))) (Some h))))) g e) [ | inl a ↦ reply_serial_grows v g valid a.1 | inr a ↦ from_6 v g valid a.1 ]
+  from_5 v g valid e = elim (chosen (eqb c 5) (option_map (λ x. record h { reply_serial = x }) (once h.reply_serial (serial_in v))) (cond (eqb c 6) (option_map (λ x. record h { destination = x }) (once h.destination (string_in v))) (cond (eqb c 7) (option_map (λ x. record h { sender = x }) (once h.sender (string_in v))) (cond (eqb c 8) (option_map (λ x. record h { signature = x }) (once h.signature (signature_in v))) (cond (eqb c 9) (option_map (λ x. record h { fds = x }) (once h.fds (number_in v))) (Some h))))) g e) [ inl a ↦ reply_serial_grows v g valid a.1 | inr a ↦ from_6 v g valid a.1 ]
 
   from_4 : (v : Plain) (g : Fields) → IsValue little n (field c v) → cond (eqb c 4) (option_map (λ x. record h { error_name = x }) (once h.error_name (interface_in v))) (cond (eqb c 5) (option_map (λ x. record h { reply_serial = x }) (once h.reply_serial (serial_in v))) (cond (eqb c 6) (option_map (λ x. record h { destination = x }) (once h.destination (string_in v))) (cond (eqb c 7) (option_map (λ x. record h { sender = x }) (once h.sender (string_in v))) (cond (eqb c 8) (option_map (λ x. record h { signature = x }) (once h.signature (signature_in v))) (cond (eqb c 9) (option_map (λ x. record h { fds = x }) (once h.fds (number_in v))) (Some h)))))) ≡ Some g → Grows n h g (field c v)
-  from_4 v g valid e = elim (chosen (eqb c 4) (option_map (λ x. record h { error_name = x }) (once h.error_name (interface_in v))) (cond (eqb c 5) (option_map (λ x. record h { reply_serial = x }) (once h.reply_serial (serial_in v))) (cond (eqb c 6) (option_map (λ x. record h { destination = x }) (once h.destination (string_in v))) (cond (eqb c 7) (option_map (λ x. record h { sender = x }) (once h.sender (string_in v))) (cond (eqb c 8) (option_map (λ x. record h { signature = x }) (once h.signature (signature_in v))) (cond (eqb c 9) (option_map (λ x. record h { fds = x }) (once h.fds (number_in v))) (Some h)))))) g e) [ | inl a ↦ error_name_grows v g valid a.1 | inr a ↦ from_5 v g valid a.1 ]
+  from_4 v g valid e = elim (chosen (eqb c 4) (option_map (λ x. record h { error_name = x }) (once h.error_name (interface_in v))) (cond (eqb c 5) (option_map (λ x. record h { reply_serial = x }) (once h.reply_serial (serial_in v))) (cond (eqb c 6) (option_map (λ x. record h { destination = x }) (once h.destination (string_in v))) (cond (eqb c 7) (option_map (λ x. record h { sender = x }) (once h.sender (string_in v))) (cond (eqb c 8) (option_map (λ x. record h { signature = x }) (once h.signature (signature_in v))) (cond (eqb c 9) (option_map (λ x. record h { fds = x }) (once h.fds (number_in v))) (Some h)))))) g e) [ inl a ↦ error_name_grows v g valid a.1 | inr a ↦ from_5 v g valid a.1 ]
 
   from_3 : (v : Plain) (g : Fields) → IsValue little n (field c v) → cond (eqb c 3) (option_map (λ x. record h { member = x }) (once h.member (member_in v))) (cond (eqb c 4) (option_map (λ x. record h { error_name = x }) (once h.error_name (interface_in v))) (cond (eqb c 5) (option_map (λ x. record h { reply_serial = x }) (once h.reply_serial (serial_in v))) (cond (eqb c 6) (option_map (λ x. record h { destination = x }) (once h.destination (string_in v))) (cond (eqb c 7) (option_map (λ x. record h { sender = x }) (once h.sender (string_in v))) (cond (eqb c 8) (option_map (λ x. record h { signature = x }) (once h.signature (signature_in v))) (cond (eqb c 9) (option_map (λ x. record h { fds = x }) (once h.fds (number_in v))) (Some h))))))) ≡ Some g → Grows n h g (field c v)
-  from_3 v g valid e = elim (chosen (eqb c 3) (option_map (λ x. record h { member = x }) (once h.member (member_in v))) (cond (eqb c 4) (option_map (λ x. record h { error_name = x }) (once h.error_name (interface_in v))) (cond (eqb c 5) (option_map (λ x. record h { reply_serial = x }) (once h.reply_serial (serial_in v))) (cond (eqb c 6) (option_map (λ x. record h { destination = x }) (once h.destination (string_in v))) (cond (eqb c 7) (option_map (λ x. record h { sender = x }) (once h.sender (string_in v))) (cond (eqb c 8) (option_map (λ x. record h { signature = x }) (once h.signature (signature_in v))) (cond (eqb c 9) (option_map (λ x. record h { fds = x }) (once h.fds (number_in v))) (Some h))))))) g e) [ | inl a ↦ member_grows v g valid a.1 | inr a ↦ from_4 v g valid a.1 ]
+  from_3 v g valid e = elim (chosen (eqb c 3) (option_map (λ x. record h { member = x }) (once h.member (member_in v))) (cond (eqb c 4) (option_map (λ x. record h { error_name = x }) (once h.error_name (interface_in v))) (cond (eqb c 5) (option_map (λ x. record h { reply_serial = x }) (once h.reply_serial (serial_in v))) (cond (eqb c 6) (option_map (λ x. record h { destination = x }) (once h.destination (string_in v))) (cond (eqb c 7) (option_map (λ x. record h { sender = x }) (once h.sender (string_in v))) (cond (eqb c 8) (option_map (λ x. record h { signature = x }) (once h.signature (signature_in v))) (cond (eqb c 9) (option_map (λ x. record h { fds = x }) (once h.fds (number_in v))) (Some h))))))) g e) [ inl a ↦ member_grows v g valid a.1 | inr a ↦ from_4 v g valid a.1 ]
 
   from_2 : (v : Plain) (g : Fields) → IsValue little n (field c v) → cond (eqb c 2) (option_map (λ x. record h { interface = x }) (once h.interface (interface_in v))) (cond (eqb c 3) (option_map (λ x. record h { member = x }) (once h.member (member_in v))) (cond (eqb c 4) (option_map (λ x. record h { error_name = x }) (once h.error_name (interface_in v))) (cond (eqb c 5) (option_map (λ x. record h { reply_serial = x }) (once h.reply_serial (serial_in v))) (cond (eqb c 6) (option_map (λ x. record h { destination = x }) (once h.destination (string_in v))) (cond (eqb c 7) (option_map (λ x. record h { sender = x }) (once h.sender (string_in v))) (cond (eqb c 8) (option_map (λ x. record h { signature = x }) (once h.signature (signature_in v))) (cond (eqb c 9) (option_map (λ x. record h { fds = x }) (once h.fds (number_in v))) (Some h)))))))) ≡ Some g → Grows n h g (field c v)
-  from_2 v g valid e = elim (chosen (eqb c 2) (option_map (λ x. record h { interface = x }) (once h.interface (interface_in v))) (cond (eqb c 3) (option_map (λ x. record h { member = x }) (once h.member (member_in v))) (cond (eqb c 4) (option_map (λ x. record h { error_name = x }) (once h.error_name (interface_in v))) (cond (eqb c 5) (option_map (λ x. record h { reply_serial = x }) (once h.reply_serial (serial_in v))) (cond (eqb c 6) (option_map (λ x. record h { destination = x }) (once h.destination (string_in v))) (cond (eqb c 7) (option_map (λ x. record h { sender = x }) (once h.sender (string_in v))) (cond (eqb c 8) (option_map (λ x. record h { signature = x }) (once h.signature (signature_in v))) (cond (eqb c 9) (option_map (λ x. record h { fds = x }) (once h.fds (number_in v))) (Some h)))))))) g e) [ | inl a ↦ interface_grows v g valid a.1 | inr a ↦ from_3 v g valid a.1 ]
+  from_2 v g valid e = elim (chosen (eqb c 2) (option_map (λ x. record h { interface = x }) (once h.interface (interface_in v))) (cond (eqb c 3) (option_map (λ x. record h { member = x }) (once h.member (member_in v))) (cond (eqb c 4) (option_map (λ x. record h { error_name = x }) (once h.error_name (interface_in v))) (cond (eqb c 5) (option_map (λ x. record h { reply_serial = x }) (once h.reply_serial (serial_in v))) (cond (eqb c 6) (option_map (λ x. record h { destination = x }) (once h.destination (string_in v))) (cond (eqb c 7) (option_map (λ x. record h { sender = x }) (once h.sender (string_in v))) (cond (eqb c 8) (option_map (λ x. record h { signature = x }) (once h.signature (signature_in v))) (cond (eqb c 9) (option_map (λ x. record h { fds = x }) (once h.fds (number_in v))) (Some h)))))))) g e) [ inl a ↦ interface_grows v g valid a.1 | inr a ↦ from_3 v g valid a.1 ]
 
   from_1 : (v : Plain) (g : Fields) → IsValue little n (field c v) → cond (eqb c 1) (option_map (λ x. record h { path = x }) (once h.path (path_in v))) (cond (eqb c 2) (option_map (λ x. record h { interface = x }) (once h.interface (interface_in v))) (cond (eqb c 3) (option_map (λ x. record h { member = x }) (once h.member (member_in v))) (cond (eqb c 4) (option_map (λ x. record h { error_name = x }) (once h.error_name (interface_in v))) (cond (eqb c 5) (option_map (λ x. record h { reply_serial = x }) (once h.reply_serial (serial_in v))) (cond (eqb c 6) (option_map (λ x. record h { destination = x }) (once h.destination (string_in v))) (cond (eqb c 7) (option_map (λ x. record h { sender = x }) (once h.sender (string_in v))) (cond (eqb c 8) (option_map (λ x. record h { signature = x }) (once h.signature (signature_in v))) (cond (eqb c 9) (option_map (λ x. record h { fds = x }) (once h.fds (number_in v))) (Some h))))))))) ≡ Some g → Grows n h g (field c v)
-  from_1 v g valid e = elim (chosen (eqb c 1) (option_map (λ x. record h { path = x }) (once h.path (path_in v))) (cond (eqb c 2) (option_map (λ x. record h { interface = x }) (once h.interface (interface_in v))) (cond (eqb c 3) (option_map (λ x. record h { member = x }) (once h.member (member_in v))) (cond (eqb c 4) (option_map (λ x. record h { error_name = x }) (once h.error_name (interface_in v))) (cond (eqb c 5) (option_map (λ x. record h { reply_serial = x }) (once h.reply_serial (serial_in v))) (cond (eqb c 6) (option_map (λ x. record h { destination = x }) (once h.destination (string_in v))) (cond (eqb c 7) (option_map (λ x. record h { sender = x }) (once h.sender (string_in v))) (cond (eqb c 8) (option_map (λ x. record h { signature = x }) (once h.signature (signature_in v))) (cond (eqb c 9) (option_map (λ x. record h { fds = x }) (once h.fds (number_in v))) (Some h))))))))) g e) [ | inl a ↦ path_grows v g valid a.1 | inr a ↦ from_2 v g valid a.1 ]
+  from_1 v g valid e = elim (chosen (eqb c 1) (option_map (λ x. record h { path = x }) (once h.path (path_in v))) (cond (eqb c 2) (option_map (λ x. record h { interface = x }) (once h.interface (interface_in v))) (cond (eqb c 3) (option_map (λ x. record h { member = x }) (once h.member (member_in v))) (cond (eqb c 4) (option_map (λ x. record h { error_name = x }) (once h.error_name (interface_in v))) (cond (eqb c 5) (option_map (λ x. record h { reply_serial = x }) (once h.reply_serial (serial_in v))) (cond (eqb c 6) (option_map (λ x. record h { destination = x }) (once h.destination (string_in v))) (cond (eqb c 7) (option_map (λ x. record h { sender = x }) (once h.sender (string_in v))) (cond (eqb c 8) (option_map (λ x. record h { signature = x }) (once h.signature (signature_in v))) (cond (eqb c 9) (option_map (λ x. record h { fds = x }) (once h.fds (number_in v))) (Some h))))))))) g e) [ inl a ↦ path_grows v g valid a.1 | inr a ↦ from_2 v g valid a.1 ]
 
   field_grows : (v : Plain) (g : Fields) → IsValue little n (field c v) → with_field h c v ≡ Some g → Grows n h g (field c v)
   unfolding with_field
-  field_grows v g valid e = elim (chosen (eqb c 0) None (cond (eqb c 1) (option_map (λ x. record h { path = x }) (once h.path (path_in v))) (cond (eqb c 2) (option_map (λ x. record h { interface = x }) (once h.interface (interface_in v))) (cond (eqb c 3) (option_map (λ x. record h { member = x }) (once h.member (member_in v))) (cond (eqb c 4) (option_map (λ x. record h { error_name = x }) (once h.error_name (interface_in v))) (cond (eqb c 5) (option_map (λ x. record h { reply_serial = x }) (once h.reply_serial (serial_in v))) (cond (eqb c 6) (option_map (λ x. record h { destination = x }) (once h.destination (string_in v))) (cond (eqb c 7) (option_map (λ x. record h { sender = x }) (once h.sender (string_in v))) (cond (eqb c 8) (option_map (λ x. record h { signature = x }) (once h.signature (signature_in v))) (cond (eqb c 9) (option_map (λ x. record h { fds = x }) (once h.fds (number_in v))) (Some h)))))))))) g e) [ | inl a ↦ absurd (none_some g a.1) | inr a ↦ from_1 v g valid a.1 ]
+  field_grows v g valid e = elim (chosen (eqb c 0) None (cond (eqb c 1) (option_map (λ x. record h { path = x }) (once h.path (path_in v))) (cond (eqb c 2) (option_map (λ x. record h { interface = x }) (once h.interface (interface_in v))) (cond (eqb c 3) (option_map (λ x. record h { member = x }) (once h.member (member_in v))) (cond (eqb c 4) (option_map (λ x. record h { error_name = x }) (once h.error_name (interface_in v))) (cond (eqb c 5) (option_map (λ x. record h { reply_serial = x }) (once h.reply_serial (serial_in v))) (cond (eqb c 6) (option_map (λ x. record h { destination = x }) (once h.destination (string_in v))) (cond (eqb c 7) (option_map (λ x. record h { sender = x }) (once h.sender (string_in v))) (cond (eqb c 8) (option_map (λ x. record h { signature = x }) (once h.signature (signature_in v))) (cond (eqb c 9) (option_map (λ x. record h { fds = x }) (once h.fds (number_in v))) (Some h)))))))))) g e) [ inl a ↦ absurd (none_some g a.1) | inr a ↦ from_1 v g valid a.1 ]
 
 pub record AllGrow (n : ℕ) (h g : Fields) (fs : Plains) : Type 0 where
   pub sized : size g + aligned 8 n ≤ size h + aligned 8 (end_all n fs)

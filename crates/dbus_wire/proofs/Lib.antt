@@ -12,3 +12,5 @@ pub mod Moved
 pub mod Folded
 pub mod Ordered
 pub mod Spelled
+pub mod WriteSteps
+pub mod WriteLaws

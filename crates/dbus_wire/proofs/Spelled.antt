@@ -82,8 +82,7 @@ facts_spell m e f =
       kind = ltb-true _ _ sent.0;
       serial = ltb-true _ _ sent.1;
       needed = formed.1;
-    } in
-    (
+    } in (
       front ++ (zeros (gap 8 (length front)) ++ body),
       record { spells = spelled; fields = refl },
       text_len (front ++ (zeros (gap 8 (length front)) ++ body)) m spelled ∙ ap (λ (k : ℕ). aligned 8 k + length body) n ∙ ends,

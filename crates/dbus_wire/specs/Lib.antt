@@ -8,3 +8,5 @@ pub mod Answers
 pub mod InOrder
 pub mod Checking
 pub mod Laws
+pub mod Writing
+pub mod Written

@@ -11,8 +11,11 @@ mod reading;
 mod refusal;
 mod said;
 mod valid;
+mod write;
+mod writing;
 
 pub use message::Message;
 pub use read::{Progress, read_message};
 pub use refusal::{WireRefusal, WriteRefusal};
 pub use valid::is_valid;
+pub use write::write_message;
