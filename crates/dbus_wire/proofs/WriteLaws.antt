@@ -23,7 +23,7 @@ abbrev pub body_text : PlainMessage → List ℕ
 body_text m = spells m.little (body_start m) m.body
 
 abbrev pub whole_text : PlainMessage → List ℕ
-whole_text m = head_text m (length (body_text m)) (in_order m.fields) ++ (zeros (gap 8 (fields_end m)) ++ body_text m)
+whole_text m = head_text m (length (body_text m)) ++ (zeros (gap 8 (fields_end m)) ++ body_text m)
 
 pub record Laid (m : PlainMessage) (e : ℕ) : Type 0 where
   pub tests : are_fields m.fields ≡ true
@@ -45,7 +45,7 @@ laid m e x =
     let body : s.body ≡ body_text m = s.values.is ∙ ap (λ (n : ℕ). spells m.little (aligned 8 n) m.body) head in
     let is : text ≡ made m fs (body_of m fs) = made_is text m s ∙ ap (λ (l : Plains). made m l (body_of m l)) x.1.fields in
     let again : made m fs (body_of m fs) ≡ whole_text m =
-    ap (made m fs) (ap (λ (n : ℕ). spells m.little (aligned 8 n) m.body) count) ∙ ap (λ (n : ℕ). head_text m (length (body_text m)) fs ++ (zeros (gap 8 n) ++ body_text m)) count in
+    ap (made m fs) (ap (λ (n : ℕ). spells m.little (aligned 8 n) m.body) count) ∙ ap (λ (n : ℕ). head_text m (length (body_text m)) ++ (zeros (gap 8 n) ++ body_text m)) count in
     let size : body_start m + length (body_text m) ≡ e = sym (text_len text m s ∙ ap (λ (n : ℕ). aligned 8 n + length s.body) ended ∙ ap (λ (t : List ℕ). body_start m + length t) body) ∙ x.2 in
     record {
       tests = head_fields m (passes m (text, s)).head;
@@ -58,7 +58,10 @@ laid m e x =
 
 -- ---- the parts of a header, one behind the other
 
-module _ (m : PlainMessage) (size count : ℕ) (fs : Plains) where
+module _ (m : PlainMessage) (size count : ℕ) where
+  abbrev fs : Plains
+  fs = in_order m.fields
+
   abbrev first : List ℕ
   first = order m.little ∷ (m.kind ∷ (m.flags ∷ (1 ∷ [])))
 
@@ -66,7 +69,7 @@ module _ (m : PlainMessage) (size count : ℕ) (fs : Plains) where
   padded_at old n x e z = ap (λ (k : ℕ). zeros (gap 4 k) ++ word m.little 4 x) e ∙ ap (λ (k : ℕ). zeros k ++ word m.little 4 x) z
 
   pub head_written : (old a b c d e : List ℕ) → old ≡ [] → a ≡ old ++ first → b ≡ a ++ padded m.little 4 size (length a) → c ≡ b ++ padded m.little 4 m.serial (length b) → d ≡ c ++ padded m.little 4 count (length c)
-      → count ≡ length (spells m.little 16 fs) → e ≡ d ++ spells m.little (length d) fs → e ≡ head_text m size fs
+      → count ≡ length (spells m.little 16 fs) → e ≡ d ++ spells m.little (length d) fs → e ≡ head_text m size
   head_written old a b c d e p q r s t u v =
       let w1 = word m.little 4 size in
       let w2 = word m.little 4 m.serial in
@@ -89,15 +92,15 @@ module _ (m : PlainMessage) (size count : ℕ) (fs : Plains) where
 
 -- ---- the whole
 
-pub head_length : (m : PlainMessage) (size e : ℕ) (out : List ℕ) → Laid m e → out ≡ head_text m size (in_order m.fields) → length out ≡ fields_end m
+pub head_length : (m : PlainMessage) (size e : ℕ) (out : List ℕ) → Laid m e → out ≡ head_text m size → length out ≡ fields_end m
 head_length m size e out l is = ap length is ∙ flat_len m.little (order m.little) m.kind m.flags size m.serial (in_order m.fields) ∙ l.count
 
-pub padded_length : (m : PlainMessage) (size e : ℕ) (out mid : List ℕ) → Laid m e → out ≡ head_text m size (in_order m.fields) → mid ≡ out ++ zeros (gap 8 (length out)) → length mid ≡ body_start m
+pub padded_length : (m : PlainMessage) (size e : ℕ) (out mid : List ℕ) → Laid m e → out ≡ head_text m size → mid ≡ out ++ zeros (gap 8 (length out)) → length mid ≡ body_start m
 padded_length m size e out mid l is f =
     let len = head_length m size e out l is in
     ap length f ∙ length-append out (zeros (gap 8 (length out))) ∙ ap (λ (n : ℕ). length out + n) (length-zeros (gap 8 (length out))) ∙ ap (λ (n : ℕ). n + gap 8 n) len
 
-pub all_written : (m : PlainMessage) (size e : ℕ) (out mid new : List ℕ) → Laid m e → size ≡ length (body_text m) → out ≡ head_text m size (in_order m.fields) → mid ≡ out ++ zeros (gap 8 (length out))
+pub all_written : (m : PlainMessage) (size e : ℕ) (out mid new : List ℕ) → Laid m e → size ≡ length (body_text m) → out ≡ head_text m size → mid ≡ out ++ zeros (gap 8 (length out))
     → new ≡ mid ++ spells m.little (length mid) m.body → SpellsInOrder new m
 all_written m size e out mid new l sized is f g =
     let len = head_length m size e out l is in
@@ -106,7 +109,7 @@ all_written m size e out mid new l sized is f g =
     let new_is : new ≡ whole_text m =
     g ∙ ap (λ (n : ℕ). mid ++ spells m.little n m.body) at ∙ ap (λ (t : List ℕ). t ++ body) f ∙ ap (λ (n : ℕ). (out ++ zeros (gap 8 n)) ++ body) len
     ∙ append_assoc out (zeros (gap 8 (fields_end m))) body
-    ∙ ap (λ (t : List ℕ). t ++ (zeros (gap 8 (fields_end m)) ++ body)) (is ∙ ap (λ (n : ℕ). head_text m n (in_order m.fields)) sized) in
+    ∙ ap (λ (t : List ℕ). t ++ (zeros (gap 8 (fields_end m)) ++ body)) (is ∙ ap (λ (n : ℕ). head_text m n) sized) in
     subst (λ (t : List ℕ). SpellsInOrder t m) (sym new_is) l.spelled
 
 -- ---- by the layout

@@ -1,5 +1,5 @@
 -- Which fields the grammar spells, and where they end in the order of their codes.
-use Rattle.std.specs.Prelude.{ℕ, ◌+◌, ◌^◌, Bool, true, ◌&&◌, nat_lt, nat_le, List, length, Option, Some, None}
+use Rattle.std.specs.Prelude.{ℕ, ◌+◌, ◌<◌, ◌^◌, Bool, true, ◌&&◌, nat_lt, nat_le, List, length, Option, Some, None, IfSome}
 use Rattle.wire_value.specs.Types.{string, signature}
 use Rattle.wire_value.specs.Plain.{Plains, none}
 use Rattle.wire_value.specs.Spelling.{gap, is_path}
@@ -29,19 +29,23 @@ is_member_text t = is_short_string t && is_member t
 
 -- each field that is there has its form
 abbrev pub are_names : Fields → Bool
-are_names h = (if_there is_path_text h.path && if_there is_interface_text h.interface) && (if_there is_member_text h.member && if_there is_interface_text h.error_name)
+are_names h =
+    (if_there is_path_text h.path && if_there is_interface_text h.interface)
+    && (if_there is_member_text h.member && if_there is_interface_text h.error_name)
 
 abbrev pub are_others : Fields → Bool
-are_others h = (if_there (λ n. nat_lt 0 n) h.reply_serial && if_there is_short_string h.destination) && (if_there is_short_string h.sender && if_there is_signature h.signature)
+are_others h =
+    (if_there (λ n. nat_lt 0 n) h.reply_serial && if_there is_short_string h.destination)
+    && (if_there is_short_string h.sender && if_there is_signature h.signature)
 
 abbrev pub are_fields : Fields → Bool
 are_fields h = are_names h && are_others h
 
--- where the value of a field begins that may begin at an offset: behind its padding, its code and its type
+-- where the value of a field at an offset begins: behind its padding, its code and its type
 abbrev pub value_start : ℕ → ℕ
 value_start n = n + gap 8 n + 4
 
--- where a text's field ends that may begin at an offset; its code and whether it is a path do not matter
+-- where the field of a text at an offset ends, of a string or a path and of any code
 abbrev pub text_end : Option (List ℕ) → ℕ → ℕ
 text_end t n = end_all n (words_field 2 string t none)
 
@@ -53,4 +57,12 @@ signature_end t n = end_all n (words_field 8 signature t none)
 
 -- kind, serial and fields are such that the grammar may spell them
 abbrev pub has_head : PlainMessage → Bool
-has_head m = (nat_lt 0 m.kind && nat_lt 0 m.serial) && (are_fields m.fields && has_needed m.kind m.fields)
+has_head m =
+    (nat_lt 0 m.kind && nat_lt 0 m.serial) && (are_fields m.fields && has_needed m.kind m.fields)
+
+-- the numbers of a header have their lengths
+abbrev pub HeadFits : ℕ → ℕ → ℕ → Type 0
+HeadFits kind flags serial = (kind < 256) × (flags < 256) × (serial < 2 ^ 32)
+
+abbrev pub NumbersFit : Option ℕ → Option ℕ → Type 0
+NumbersFit reply fds = IfSome reply (λ x. x < 2 ^ 32) × IfSome fds (λ x. x < 2 ^ 32)

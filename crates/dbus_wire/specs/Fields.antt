@@ -18,7 +18,17 @@ pub record Fields : Type 0 where
   pub fds : Option ℕ
 
 abbrev pub no_fields : Fields
-no_fields = record { path = None; interface = None; member = None; error_name = None; reply_serial = None; destination = None; sender = None; signature = None; fds = None }
+no_fields = record {
+  path = None;
+  interface = None;
+  member = None;
+  error_name = None;
+  reply_serial = None;
+  destination = None;
+  sender = None;
+  signature = None;
+  fds = None;
+}
 
 -- ---- the value of a field
 
@@ -63,13 +73,18 @@ unfoldable pub with_field : Fields → ℕ → Plain → Option Fields
 with_field h c v =
     if c == 0 then None
     else if c == 1 then option_map (λ x. record h { path = x }) (once h.path (path_in v))
-    else if c == 2 then option_map (λ x. record h { interface = x }) (once h.interface (interface_in v))
+    else if c == 2 then
+    option_map (λ x. record h { interface = x }) (once h.interface (interface_in v))
     else if c == 3 then option_map (λ x. record h { member = x }) (once h.member (member_in v))
-    else if c == 4 then option_map (λ x. record h { error_name = x }) (once h.error_name (interface_in v))
-    else if c == 5 then option_map (λ x. record h { reply_serial = x }) (once h.reply_serial (serial_in v))
-    else if c == 6 then option_map (λ x. record h { destination = x }) (once h.destination (string_in v))
+    else if c == 4 then
+    option_map (λ x. record h { error_name = x }) (once h.error_name (interface_in v))
+    else if c == 5 then
+    option_map (λ x. record h { reply_serial = x }) (once h.reply_serial (serial_in v))
+    else if c == 6 then
+    option_map (λ x. record h { destination = x }) (once h.destination (string_in v))
     else if c == 7 then option_map (λ x. record h { sender = x }) (once h.sender (string_in v))
-    else if c == 8 then option_map (λ x. record h { signature = x }) (once h.signature (signature_in v))
+    else if c == 8 then
+    option_map (λ x. record h { signature = x }) (once h.signature (signature_in v))
     else if c == 9 then option_map (λ x. record h { fds = x }) (once h.fds (number_in v))
     else Some h
 
@@ -110,11 +125,12 @@ abbrev pub settled : Fields → Fields
 settled h = record h { signature = if_any (signature_of h) }
 
 -- the fields that a kind of message has to have: a call, a return, an error and a signal
-abbrev pub has_those : ℕ → Option (List ℕ) → Option (List ℕ) → Option (List ℕ) → Option (List ℕ) → Option ℕ → Bool
-has_those kind path interface member error_name reply_serial =
+abbrev pub has_those : (kind : ℕ) (path interface member error_name : Option (List ℕ))
+    → (reply : Option ℕ) → Bool
+has_those kind path interface member error_name reply =
     if kind == 1 then is_some path && is_some member
-    else if kind == 2 then is_some reply_serial
-    else if kind == 3 then is_some error_name && is_some reply_serial
+    else if kind == 2 then is_some reply
+    else if kind == 3 then is_some error_name && is_some reply
     else if kind == 4 then is_some path && (is_some interface && is_some member)
     else true
 

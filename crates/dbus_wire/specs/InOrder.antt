@@ -22,8 +22,10 @@ number_field c (Some x) others = more (field c (number uint32 x)) others
 -- the fields that are there
 abbrev pub in_order : Fields → Plains
 in_order h =
-    words_field 1 object_path h.path (words_field 2 string h.interface (words_field 3 string h.member (words_field 4 string h.error_name
-    (number_field 5 h.reply_serial (words_field 6 string h.destination (words_field 7 string h.sender (words_field 8 signature h.signature
+    words_field 1 object_path h.path (words_field 2 string h.interface
+    (words_field 3 string h.member (words_field 4 string h.error_name
+    (number_field 5 h.reply_serial (words_field 6 string h.destination
+    (words_field 7 string h.sender (words_field 8 signature h.signature
     (number_field 9 h.fds none))))))))
 
 -- where they end, and where the body begins

@@ -9,8 +9,10 @@ OneMessage = (text : List ℕ) (m k : PlainMessage) → Spells text m → Spells
 
 -- No spelling begins another.
 abbrev pub NoPrefix : Type 0
-NoPrefix = (m k : PlainMessage) (short long rest : List ℕ) → Spells short m → Spells long k → long ≡ short ++ rest → rest ≡ []
+NoPrefix = (m k : PlainMessage) (short long rest : List ℕ) → Spells short m → Spells long k
+    → long ≡ short ++ rest → rest ≡ []
 
 -- A message has one spelling at most whose fields stand in the order of their codes.
 abbrev pub OneInOrder : Type 0
-OneInOrder = (m : PlainMessage) (text other : List ℕ) → SpellsInOrder text m → SpellsInOrder other m → text ≡ other
+OneInOrder = (m : PlainMessage) (text other : List ℕ) → SpellsInOrder text m
+    → SpellsInOrder other m → text ≡ other

@@ -4,6 +4,7 @@ pub mod FieldsView
 pub mod Spelling
 pub mod Reading
 pub mod MessageView
+pub mod StartView
 pub mod Answers
 pub mod InOrder
 pub mod Checking

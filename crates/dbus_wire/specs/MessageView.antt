@@ -18,4 +18,11 @@ fields_of m = record {
 }
 
 abbrev pub plain : Message → PlainMessage
-plain m = record { little = m.little; kind = m.kind; flags = m.flags; serial = m.serial; fields = fields_of m; body = views m.body.items }
+plain m = record {
+  little = m.little;
+  kind = m.kind;
+  flags = m.flags;
+  serial = m.serial;
+  fields = fields_of m;
+  body = views m.body.items;
+}

@@ -12,7 +12,8 @@ is_name_byte inside c = is_path_byte c && (inside || not (is_digit c))
 -- what stands inside a part, or before one: parts of one byte at least with a dot between them
 abbrev pub are_parts : Bool → List ℕ → Bool
 are_parts inside [] = inside
-are_parts inside (c ∷ s) = if c == 46 then inside && are_parts false s else is_name_byte inside c && are_parts true s
+are_parts inside (c ∷ s) =
+    if c == 46 then inside && are_parts false s else is_name_byte inside c && are_parts true s
 
 abbrev pub has_dot : List ℕ → Bool
 has_dot [] = false

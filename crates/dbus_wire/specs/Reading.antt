@@ -41,13 +41,24 @@ body_at little s p = do
 abbrev pub is_sent : Bool → List ℕ → Bool
 is_sent little bytes = nat_lt 0 (slice_index bytes 1) && nat_lt 0 (word_in little 8 bytes)
 
+-- a message of what its parts say
+abbrev pub joined : Bool → ℕ → ℕ → ℕ → Fields → Plains → PlainMessage
+joined little kind flags serial h vs = record {
+  little = little;
+  kind = kind;
+  flags = flags;
+  serial = serial;
+  fields = settled h;
+  body = vs;
+}
+
 -- the message that all the bytes are
 unfoldable pub message_at : Bool → List ℕ → Option PlainMessage
 message_at little bytes =
     if is_sent little bytes then (do
       h ← fields_at (slice_index bytes 1) little (word_in little 12 bytes) bytes
       vs ← body_at little (signature_of h.0) h.1
-      Some (record { little = little; kind = slice_index bytes 1; flags = slice_index bytes 2; serial = word_in little 8 bytes; fields = settled h.0; body = vs }))
+      Some (joined little (slice_index bytes 1) (slice_index bytes 2) (word_in little 8 bytes) h.0 vs))
     else None
 
 -- ---- any bytes
@@ -77,4 +88,6 @@ by_order None bytes = bad
 by_order (Some little) bytes = by_length little bytes (stated little bytes)
 
 unfoldable pub answer : List ℕ → Answer
-answer bytes = if nat_lt (length bytes) 16 then need (16 - length bytes) else by_order (order_of bytes) bytes
+answer bytes =
+    if nat_lt (length bytes) 16 then need (16 - length bytes)
+    else by_order (order_of bytes) bytes

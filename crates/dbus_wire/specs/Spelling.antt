@@ -27,8 +27,9 @@ field_type = 40 ∷ 121 ∷ 118 ∷ 41 ∷ []
 -- the values of a header, of the signature yyyyuua(yv), by its fields and the length of the body
 abbrev pub header : PlainMessage → Plains → ℕ → Plains
 header m fields size =
-    more (number byte (order m.little)) (more (number byte m.kind) (more (number byte m.flags) (more (number byte 1)
-    (more (number uint32 size) (more (number uint32 m.serial) (more (array field_type fields) none))))))
+    more (number byte (order m.little)) (more (number byte m.kind) (more (number byte m.flags)
+    (more (number byte 1) (more (number uint32 size) (more (number uint32 m.serial)
+    (more (array field_type fields) none))))))
 
 -- The text is a spelling of the message.
 pub record Spells (text : List ℕ) (m : PlainMessage) : Type 0 where

@@ -4,7 +4,7 @@ ghost use Rattle.std.specs.Prelude.{◌≡◌, option_map};
 ghost use Rattle.wire_value.specs.Gives.{Gives};
 ghost use Rattle.wire_value.specs.View.{view, views};
 ghost use Rattle.dbus_wire.specs.Fields as spec;
-ghost use Rattle.dbus_wire.specs.FieldsView.{plain_fields, lent};
+ghost use Rattle.dbus_wire.specs.FieldsView.{plain_fields, lent, GivesSaid};
 
 use crate::names::{is_interface, is_member};
 use std::alloc::Global;
@@ -133,7 +133,7 @@ fn say_number(field: &mut Option<u32>, number: Option<u32>) -> Result<(), ReadEr
 // Adds what the field of a code says.
 #[tactic(auto, unfolding(crate::specs::Fields::with_field))]
 pub fn say(alloc: Global, said: &mut Fields, code: u8, value: &Value) -> Result<(), ReadError>
-    ensures { Gives (λ _. plain_fields said.new) result (spec.with_field (plain_fields said.old) code (view value.now)) }
+    ensures { GivesSaid said.new result (spec.with_field (plain_fields said.old) code (view value.now)) }
 {
     match code {
         0 => Err(ReadError::Malformed),
@@ -169,14 +169,14 @@ pub fn has_needed(
     interface: &Option<Text>,
     member: &Option<Text>,
     error_name: &Option<Text>,
-    reply_serial: Option<u32>,
+    reply: Option<u32>,
 ) -> bool
-    ensures { result ≡ spec.has_those kind path.now interface.now member.now error_name.now reply_serial }
+    ensures { result ≡ spec.has_those kind path.now interface.now member.now error_name.now reply }
 {
     match kind {
         1 => path.is_some() && member.is_some(),
-        2 => reply_serial.is_some(),
-        3 => error_name.is_some() && reply_serial.is_some(),
+        2 => reply.is_some(),
+        3 => error_name.is_some() && reply.is_some(),
         4 => path.is_some() && interface.is_some() && member.is_some(),
         _ => true,
     }

@@ -2,7 +2,7 @@
 
 ghost use Rattle.std.specs.Prelude.{◌≡◌, ◌+◌, ◌≤◌, ◌↔◌, ℕ, Ok, Err, length};
 ghost use Rattle.updater_text.specs.declared.stops.Lack.TheVariants as lack;
-ghost use Rattle.dbus_wire.specs.Answers.{Answers, AnswersWhole, Lacks, StatesTooMuch, NoMessage, HasAll, GotIsSpelled, GetsSpelled, NeedsRest, RefusedOrNoMemory};
+ghost use Rattle.dbus_wire.specs.Answers.{Answers, AnswersWhole, Lacks, StatesTooMuch, NoMessage, HasAll, GotIsSpelled, GetsSpelled, NeedsRest, Refuses, RefusedOrNoMemory};
 ghost use Rattle.dbus_wire.specs.Reading.{message_at, whole};
 ghost use Rattle.dbus_wire.specs.declared.refusal.WireRefusal.TheVariants as refusal;
 ghost use Rattle.dbus_wire.specs.declared.read.Progress.TheVariants as progress;
@@ -75,8 +75,8 @@ pub fn read_message(alloc: Global, bytes: &[u8]) -> Result<Progress, Lack<WireRe
     // Of one that is not all there, more is needed, and never more than is missing.
     ensures part { NeedsRest bytes.now result }
     ensures need { (more : ℕ) → (result ≡ Ok (progress.Need more)) ↔ Lacks bytes.now more }
-    ensures large { (length : ℕ) → (result ≡ Err (lack.Refused (refusal.TooLarge length))) ↔ StatesTooMuch bytes.now length }
-    ensures bad { result ≡ Err (lack.Refused refusal.Bad) → NoMessage bytes.now }
+    ensures large { (n : ℕ) → Refuses result (refusal.TooLarge n) ↔ StatesTooMuch bytes.now n }
+    ensures bad { Refuses result refusal.Bad → NoMessage bytes.now }
     ensures refuses { HasAll bytes.now → NoMessage bytes.now → RefusedOrNoMemory result }
     // Memory runs out only where all is there.
     ensures memory { result ≡ Err lack.NoMemory → HasAll bytes.now }

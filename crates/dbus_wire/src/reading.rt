@@ -1,11 +1,12 @@
 //! A message, read from the bytes that it is stated to have.
 
 ghost use Rattle.std.specs.Prelude.{◌≡◌, ◌+◌, ◌≤◌, ◌<◌, ℕ, length, IfSome, slice_index};
-ghost use Rattle.wire_value.specs.Gives.{Gives, at};
+ghost use Rattle.wire_value.specs.Gives.{Gives, GivesItems, at};
 ghost use Rattle.wire_value.specs.View.{views};
 ghost use Rattle.dbus_wire.specs.Fields as field_spec;
-ghost use Rattle.dbus_wire.specs.Fields.{settled, text_of};
-ghost use Rattle.dbus_wire.specs.FieldsView.{plain_fields};
+ghost use Rattle.dbus_wire.specs.Fields.{text_of};
+ghost use Rattle.dbus_wire.specs.FieldsView.{plain_fields, GivesFields};
+ghost use Rattle.dbus_wire.specs.StartView.{joined_by};
 ghost use Rattle.dbus_wire.specs.MessageView.{plain};
 ghost use Rattle.dbus_wire.specs.Reading as spec;
 
@@ -91,7 +92,7 @@ fn fields_of<'a>(
 ) -> Result<(Fields, Place<'a>), ReadError>
     requires long { 16 ≤ length bytes.now }
     requires short { length bytes.now ≤ 1048576 }
-    ensures { Gives (λ x. (plain_fields x.0, at x.1)) result (spec.fields_at kind little size bytes.now) }
+    ensures { GivesFields result (spec.fields_at kind little size bytes.now) }
 {
     let place = Place {
         offset: 16,
@@ -119,7 +120,7 @@ fn body_of(
     signature: &[u8],
     place: Place<'_>,
 ) -> Result<Vec<Value>, ReadError>
-    ensures { Gives (λ x. views x.items) result (spec.body_at little signature.now (at place.entry)) }
+    ensures { GivesItems result (spec.body_at little signature.now (at place.entry)) }
 {
     let rest = gap_of(8, place)?;
     if !is_signature(signature) {
@@ -157,7 +158,7 @@ pub fn message_of(alloc: Global, little: bool, bytes: &[u8]) -> Result<Message, 
 
 // The message of a start, of what the fields say and of a body.
 fn joined(alloc: Global, start: Start, fields: Fields, body: Vec<Value>) -> Message
-    ensures { plain result ≡ record { little = start.little; kind = start.kind; flags = start.flags; serial = start.serial; fields = settled (plain_fields fields); body = views body.items } }
+    ensures { plain result ≡ joined_by start (plain_fields fields) (views body.items) }
 {
     Message {
         little: start.little,

@@ -1,17 +1,17 @@
 //! The fields of a header, one after the other.
 
-ghost use Rattle.std.specs.Prelude.{◌≡◌, option_map};
+ghost use Rattle.std.specs.Prelude.{◌≡◌};
 ghost use Rattle.wire_value.specs.Gives.{Gives};
 ghost use Rattle.wire_value.specs.View.{view, views};
 ghost use Rattle.dbus_wire.specs.Fields as spec;
-ghost use Rattle.dbus_wire.specs.FieldsView.{plain_fields};
+ghost use Rattle.dbus_wire.specs.FieldsView.{plain_fields, lent_field};
 
 use crate::fields::{Fields, no_fields, say};
 use std::alloc::Global;
 use wire_value::{ReadError, Value};
 
 fn coded<'a>(code: &Value, value: &'a Value) -> Option<(u8, &'a Value)>
-    ensures { option_map (λ x. (x.0, view x.1.now)) result ≡ spec.coded (view code.now) (view value.now) }
+    ensures { lent_field result ≡ spec.coded (view code.now) (view value.now) }
 {
     match code {
         Value::Byte(code) => match value {
@@ -24,7 +24,7 @@ fn coded<'a>(code: &Value, value: &'a Value) -> Option<(u8, &'a Value)>
 
 #[tactic(auto, using(crate::proofs::FieldSteps::no_pair))]
 fn coded_in(members: &[Value]) -> Option<(u8, &Value)>
-    ensures { option_map (λ x. (x.0, view x.1.now)) result ≡ spec.coded_in (views members.now) }
+    ensures { lent_field result ≡ spec.coded_in (views members.now) }
 {
     if members.len() != 2 {
         return None;
@@ -34,7 +34,7 @@ fn coded_in(members: &[Value]) -> Option<(u8, &Value)>
 
 // The code and the value of a field.
 fn field_in(field: &Value) -> Option<(u8, &Value)>
-    ensures { option_map (λ x. (x.0, view x.1.now)) result ≡ spec.field_in (view field.now) }
+    ensures { lent_field result ≡ spec.field_in (view field.now) }
 {
     match field {
         Value::Struct(members) => coded_in(members),

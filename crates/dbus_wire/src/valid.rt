@@ -163,7 +163,7 @@ fn signature_end(signature: &[u8], offset: usize) -> usize
 fn fields_end(message: &Message) -> usize
     requires { spec.are_fields (fields_of message.now) ≡ true }
     ensures is { result ≡ end_all 16 (in_order (fields_of message.now)) }
-    ensures fits { (IfSome message.now.reply_serial (λ x. x < 2 ^ 32)) × (IfSome message.now.fds (λ x. x < 2 ^ 32)) }
+    ensures fits { spec.NumbersFit message.now.reply_serial message.now.fds }
     ensures near { result ≤ 2 ^ 31 }
 {
     let end = text_end(&message.path, 16);
@@ -180,7 +180,7 @@ fn fields_end(message: &Message) -> usize
 // Whether kind, serial and fields are such that the grammar may spell them.
 fn has_head(message: &Message) -> bool
     ensures is { result ≡ spec.has_head (plain message.now) }
-    ensures fits { (message.now.kind < 256) × (message.now.flags < 256) × (message.now.serial < 2 ^ 32) }
+    ensures fits { spec.HeadFits message.now.kind message.now.flags message.now.serial }
 {
     let _flags = message.flags;
     let (kind, serial) = (message.kind, message.serial);

@@ -1,11 +1,9 @@
 //! Messages, written.
 
-ghost use Rattle.std.specs.Prelude.{◌≡◌, ◌<◌, ◌≤◌, ℕ, List, Err, length, IfOk};
-ghost use Rattle.updater_text.specs.declared.stops.Lack.TheVariants as lack;
+ghost use Rattle.std.specs.Prelude.{◌≤◌, ℕ, length, IfOk};
 ghost use Rattle.dbus_wire.specs.InOrder.{HasSpelling, SpellsInOrder};
 ghost use Rattle.dbus_wire.specs.MessageView.{plain};
-ghost use Rattle.dbus_wire.specs.Written.{TooLong};
-ghost use Rattle.dbus_wire.specs.declared.refusal.WriteRefusal.TheVariants as refusal;
+ghost use Rattle.dbus_wire.specs.Written.{TooLong, RefusesLength};
 
 use crate::message::Message;
 use crate::refusal::WriteRefusal;
@@ -19,11 +17,12 @@ use updater_text::Lack;
 /// condition is what `is_valid` tells. TooLarge comes exactly where it has more than 1 MiB.
 pub fn write_message(alloc: Global, message: &Message) -> Result<Vec<u8>, Lack<WriteRefusal>>
     requires { HasSpelling (plain message.now) }
-    ensures written { IfOk result (λ b. SpellsInOrder b.items (plain message.now) × (length b.items ≤ 1048576)) }
+    ensures written { IfOk result (λ b. SpellsInOrder b.items (plain message.now)) }
+    ensures short { IfOk result (λ b. length b.items ≤ 1048576) }
     // Refused only where its spelling has so many bytes, and they are too many.
-    ensures large { (n : ℕ) → result ≡ Err (lack.Refused (refusal.TooLarge n)) → TooLong (plain message.now) n }
+    ensures large { (n : ℕ) → RefusesLength result n → TooLong (plain message.now) n }
     // A spelling that has too many is refused.
-    ensures refused { (n : ℕ) → TooLong (plain message.now) n → result ≡ Err (lack.Refused (refusal.TooLarge n)) }
+    ensures refused { (n : ℕ) → TooLong (plain message.now) n → RefusesLength result n }
 {
     let layout = layout_of(message).unwrap();
     if layout.end > 1_048_576 {

@@ -1,15 +1,14 @@
 //! Messages as bytes.
 
-ghost use Rattle.std.specs.Prelude.{◌≡◌, [], ◌∷◌, ◌++◌, ◌+◌, ◌<◌, ◌≤◌, ◌^◌, true, length, OnOk, IfOk, IfSome};
+ghost use Rattle.std.specs.Prelude.{◌≡◌, [], ◌++◌, ◌<◌, ◌≤◌, ◌^◌, true, length, OnOk, IfOk, IfSome};
 ghost use Rattle.wire_value.specs.Types.{string, object_path, signature};
-ghost use Rattle.wire_value.specs.Spelling.{spells};
 ghost use Rattle.wire_value.specs.Sizes.{Adds};
 ghost use Rattle.dbus_wire.specs.Fields.{if_any};
 ghost use Rattle.dbus_wire.specs.Checking.{are_fields};
-ghost use Rattle.dbus_wire.specs.InOrder.{words_field, number_field, in_order, fields_end, IsSpelledIn, SpellsInOrder};
+ghost use Rattle.dbus_wire.specs.InOrder.{words_field, number_field, fields_end, IsSpelledIn, SpellsInOrder};
 ghost use Rattle.dbus_wire.specs.MessageView.{fields_of, plain};
 ghost use Rattle.dbus_wire.specs.Writing as spec;
-ghost use Rattle.dbus_wire.specs.Spelling.{order};
+ghost use Rattle.dbus_wire.specs.Writing.{PutsField};
 
 use crate::message::Message;
 use crate::valid::Layout;
@@ -36,7 +35,7 @@ fn put_code(out: &mut Vec<u8>, code: u8, letter: u8) -> Result<(), AllocError>
 #[tactic(auto, using(crate::proofs::WriteSteps::path_written))]
 fn put_path(out: &mut Vec<u8>, little: bool, field: &Option<Text>) -> Result<(), AllocError>
     requires { IfSome field.now (λ t. length t < 2 ^ 32) }
-    ensures { spec.AddsField little result out.old.items out.new.items (words_field 1 object_path field.now) }
+    ensures { PutsField little result out.old out.new (words_field 1 object_path field.now) }
 {
     match field {
         Some(text) => {
@@ -57,7 +56,7 @@ fn put_string(
     field: &Option<Text>,
 ) -> Result<(), AllocError>
     requires { IfSome field.now (λ t. length t < 2 ^ 32) }
-    ensures { spec.AddsField little result out.old.items out.new.items (words_field code string field.now) }
+    ensures { PutsField little result out.old out.new (words_field code string field.now) }
 {
     match field {
         Some(text) => {
@@ -77,7 +76,7 @@ fn put_number(
     code: u8,
     field: Option<u32>,
 ) -> Result<(), AllocError>
-    ensures { spec.AddsField little result out.old.items out.new.items (number_field code field) }
+    ensures { PutsField little result out.old out.new (number_field code field) }
 {
     match field {
         Some(number) => {
@@ -93,7 +92,7 @@ fn put_number(
 #[tactic(auto, using(crate::proofs::WriteSteps::signature_written, crate::proofs::WriteSteps::no_signature_written))]
 fn put_signature_field(out: &mut Vec<u8>, little: bool, text: &[u8]) -> Result<(), AllocError>
     requires { length text.now ≤ 255 }
-    ensures { spec.AddsField little result out.old.items out.new.items (words_field 8 signature (if_any text.now)) }
+    ensures { PutsField little result out.old out.new (words_field 8 signature (if_any text.now)) }
 {
     if text.is_empty() {
         return Ok(());
@@ -107,7 +106,7 @@ fn put_signature_field(out: &mut Vec<u8>, little: bool, text: &[u8]) -> Result<(
 #[tactic(auto, using(crate::proofs::Checked::path_fits, crate::proofs::Checked::interface_fits, crate::proofs::Checked::member_fits, crate::proofs::Checked::error_fits, crate::proofs::Checked::destination_fits, crate::proofs::Checked::sender_fits, crate::proofs::Checked::signature_fits))]
 fn put_fields(out: &mut Vec<u8>, message: &Message) -> Result<(), AllocError>
     requires { are_fields (fields_of message.now) ≡ true }
-    ensures { Adds result out.old.items out.new.items (λ n. spells message.now.little n (in_order (fields_of message.now))) }
+    ensures { Adds result out.old.items out.new.items (spec.fields_text (plain message.now)) }
 {
     let little = message.little;
     put_path(out, little, &message.path)?;
@@ -124,7 +123,7 @@ fn put_fields(out: &mut Vec<u8>, message: &Message) -> Result<(), AllocError>
 
 // Adds the first four bytes: byte order, kind, flags and version.
 fn put_start(out: &mut Vec<u8>, message: &Message) -> Result<(), AllocError>
-    ensures { OnOk result (out.new.items ≡ out.old.items ++ (order message.now.little ∷ (message.now.kind ∷ (message.now.flags ∷ (1 ∷ []))))) }
+    ensures { OnOk result (out.new.items ≡ out.old.items ++ spec.start_text (plain message.now)) }
 {
     out.push(if message.little { b'l' } else { b'B' })?;
     out.push(message.kind)?;
@@ -137,8 +136,8 @@ fn put_start(out: &mut Vec<u8>, message: &Message) -> Result<(), AllocError>
 fn put_head(out: &mut Vec<u8>, message: &Message, body: u32, fields: u32) -> Result<(), AllocError>
     requires empty { out.old.items ≡ [] }
     requires fields { are_fields (fields_of message.now) ≡ true }
-    requires length { fields ≡ length (spells message.now.little 16 (in_order (fields_of message.now))) }
-    ensures { OnOk result (out.new.items ≡ spec.head_text (plain message.now) body (in_order (fields_of message.now))) }
+    requires length { fields ≡ length (spec.fields_text (plain message.now) 16) }
+    ensures { OnOk result (out.new.items ≡ spec.head_text (plain message.now) body) }
 {
     put_start(out, message)?;
     put_u32(out, message.little, body)?;

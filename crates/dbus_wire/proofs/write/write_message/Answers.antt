@@ -16,12 +16,10 @@ returns-in_err-spelled-clause-refused c n t =
     let m = plain c.args.message.now in
     absurd (omega (arith, too_long_is m c.unwrap-layout.result.end n (spelled_by m c.layout_of.result c.unwrap-layout.result c.unwrap-layout.ensures c.layout_of.ensures.found) t, t.3, c.if-layout-gt1048576.false))
 
-pub returns-clause-written : goal.returns-clause-written
-returns-clause-written c =
-    let m = plain c.args.message.now in (
-      c.in_ok-spelled.ensures,
-      omega (arith, spelled_length m c.in_ok-spelled.field-0.items c.unwrap-layout.result.end c.in_ok-spelled.ensures (spelled_by m c.layout_of.result c.unwrap-layout.result c.unwrap-layout.ensures c.layout_of.ensures.found), c.if-layout-gt1048576.false),
-    )
+pub returns-clause-short : goal.returns-clause-short
+returns-clause-short c =
+    let m = plain c.args.message.now in
+    omega (arith, spelled_length m c.in_ok-spelled.field-0.items c.unwrap-layout.result.end c.in_ok-spelled.ensures (spelled_by m c.layout_of.result c.unwrap-layout.result c.unwrap-layout.ensures c.layout_of.ensures.found), c.if-layout-gt1048576.false)
 
 pub returns-clause-refused : goal.returns-clause-refused
 returns-clause-refused c n t =
