@@ -20,11 +20,12 @@ build/%: $(sources)
 demo: $(program)
 	@bash demo/write_slot.sh $(program)
 
-bench: $(program) build/hash_file
+bench: $(program) build/hash_file build/message_speed
 	@bash bench/write_slot.sh $(program)
 	@bash bench/configuration.sh $(program)
 	@bash bench/manifest.sh $(program)
 	@bash bench/status.sh $(program)
+	@bash bench/messages.sh build/message_speed
 
 check:
 	.ci/run
