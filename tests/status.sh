@@ -289,7 +289,9 @@ if strace -o /dev/null true 2> /dev/null; then
   new=0
   while read -r call number; do
     cp book.before "$book"
-    strace -o /dev/null -e "inject=$call:signal=KILL:when=$number" "$program" status --override-boot-slot=A -c c mark-active other > /dev/null 2>&1
+    # A shell of its own, since a shell tells of a child that a signal ended.
+    sh -c 'strace -o /dev/null -e "inject=$1:signal=KILL:when=$2" "$3" status --override-boot-slot=A -c c mark-active other
+      exit $?' sh "$call" "$number" "$program" > /dev/null 2>&1
     [ $? = 137 ] && killed=$((killed + 1))
     sed 's/^activated.timestamp=.*/activated.timestamp=T/' "$book" > left
     holds left '[slot.rootfs.1]' activated.count=7 && old=$((old + 1))
