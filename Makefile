@@ -12,7 +12,7 @@ all: $(program)
 # no words, which is bad usage). What is proved it keeps in crates/*/out, which git ignores.
 build/%: $(sources)
 	@mkdir -p build
-	@echo "proving and building $*; all of rauc takes about ten minutes the first time, on four cores (build/$*.log tells how far it is)"
+	@echo "proving and building $*; all of rauc takes about half an hour the first time, on four cores (build/$*.log tells how far it is)"
 	@rm -f crates/$*/out/$* crates/$*/out/$*.stamp
 	@cd crates/$* && rt run > ../../build/$*.log 2>&1; test -x out/$* || { tail -n 20 ../../build/$*.log; exit 1; }
 	@cp crates/$*/out/$* $@
