@@ -5,10 +5,7 @@
 # program too. Each file is to take less than 50 ms, those with slots less than 100 ms: the
 # status is 1 where one takes longer. Needs bash, coreutils, awk, sed and grep.
 set -eu
-program=$(realpath "${1:-build/rauc}")
-scratch=$(mktemp -d)
-trap 'rm -rf "$scratch"' EXIT
-cd "$scratch"
+. "$(dirname "$0")/lib/scratch.sh"
 
 head_of() { printf '[system]\ncompatible=Test\nbootloader=noop\n\n'; }
 

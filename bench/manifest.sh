@@ -6,11 +6,7 @@
 # than 100 ms: the status is 1 where one does not. Needs bash, coreutils, awk, sed and grep.
 # Use: bench/manifest.sh [PROGRAM]
 set -eu
-program=$(realpath "${1:-build/rauc}")
-scratch=$(mktemp -d)
-trap 'rm -rf "$scratch"' EXIT
-cd "$scratch"
-runs=21
+. "$(dirname "$0")/lib/scratch.sh"
 
 # helper NAME LINE: a helper that does this, and ends well if it does.
 helper() {
@@ -74,9 +70,6 @@ once() {
   "$1" > said 2>&1 || { cat said >&2; return 1; }
   echo $((${EPOCHREALTIME//[.,]/} - start))
 }
-
-# median FILE: the number in the middle of these lines.
-median() { sort -n "$1" | sed -n "$(((runs + 1) / 2))p"; }
 
 late=0
 

@@ -5,11 +5,9 @@
 # The status is 1 where a message of 64 slots takes a millisecond or more. Needs bash and coreutils.
 # Use: bench/messages.sh [PROGRAM]
 set -eu
-program=$(realpath "${1:-build/message_speed}")
 source=$(realpath "$(dirname "$0")/libdbus_messages.c")
-scratch=$(mktemp -d)
-trap 'rm -rf "$scratch"' EXIT
-cd "$scratch"
+built=message_speed
+. "$(dirname "$0")/lib/scratch.sh"
 libdbus=''
 if flags=$(pkg-config --cflags --libs dbus-1 2> /dev/null) && cc -O2 -o libdbus "$source" $flags 2> /dev/null; then
   libdbus=./libdbus

@@ -7,11 +7,7 @@
 # coreutils, awk, sed and grep.
 # Use: bench/status.sh [PROGRAM]
 set -eu
-program=$(realpath "${1:-build/rauc}")
-scratch=$(mktemp -d)
-trap 'rm -rf "$scratch"' EXIT
-cd "$scratch"
-runs=21
+. "$(dirname "$0")/lib/scratch.sh"
 digest=ba7816bf8f01cfea414140de5dae2223b00361a396177a9cb410ff61f20015ad
 
 {
@@ -45,9 +41,6 @@ once() {
   status "$@" > said 2>&1 || { cat said >&2; return 1; }
   echo $((${EPOCHREALTIME//[.,]/} - start))
 }
-
-# median FILE: the number in the middle of these lines.
-median() { sort -n "$1" | sed -n "$(((runs + 1) / 2))p"; }
 
 late=0
 
