@@ -5,3 +5,4 @@ pub mod Through
 pub mod Honest
 pub mod Marked
 pub mod Systems
+pub mod Words

@@ -1,9 +1,8 @@
 -- What is wrong with a bundle, in words.
-use Rattle.std.specs.Prelude.{◌++◌, codes, decimal, Option, Some, None}
+use Rattle.std.specs.Prelude.{◌++◌, codes, Option, Some, None}
 use Rattle.keyfile.specs.Causes.{key_cause}
 use Rattle.keyfile.specs.Groups.{Text}
-use Rattle.machine.specs.declared.world.Ended.{Ended}
-use Rattle.machine.specs.declared.world.Ended.TheVariants.{Code, Signal}
+use Rattle.machine.specs.Endings.{ended_text}
 use Rattle.manifest.specs.Causes.{manifest_cause}
 use Rattle.child_steps.specs.declared.bundle.BundleRefusal.{BundleRefusal}
 use Rattle.child_steps.specs.declared.bundle.BundleRefusal.TheVariants.{NoManifest, BadKeys, BadManifest}
@@ -11,11 +10,6 @@ use Rattle.child_steps.specs.declared.close.Closing.{Closing}
 use Rattle.child_steps.specs.declared.close.Closing.TheVariants as closing
 use Rattle.child_steps.specs.declared.refusal.MountRefusal.{MountRefusal}
 use Rattle.child_steps.specs.declared.refusal.MountRefusal.TheVariants.{Untrusted, MountFailed}
-
--- how a child ended
-abbrev pub ended_text : Ended → Text
-ended_text (Code code) = codes "status " ++ decimal code
-ended_text Signal = codes "signal"
 
 -- why a bundle is not mounted
 abbrev pub mount_cause : MountRefusal → Text

@@ -1,22 +1,13 @@
 ghost use Rattle.std.specs.Prelude.{◌≡◌, ◌++◌, IfOk, codes};
+ghost use Rattle.machine.specs.Endings.{ended_text};
 ghost use Rattle.child_steps.specs.Causes as spec;
 
 use crate::{BundleRefusal, Closing, MountRefusal};
 use keyfile::key_cause;
-use machine::Ended;
+use machine::{Ended, ended_text};
 use manifest::manifest_cause;
 use std::alloc::Global;
 use updater_text::{NoMemory, Text};
-
-/// How a child ended: `status N`, or `signal`.
-pub fn ended_text(alloc: Global, ended: Ended) -> Result<Text, NoMemory>
-    ensures { IfOk result (λ t. t ≡ spec.ended_text ended) }
-{
-    match ended {
-        Ended::Code(code) => Ok(Text::from_string(format!(in alloc; "status {code}")?)),
-        Ended::Signal => Text::new(alloc, "signal"),
-    }
-}
 
 /// Why a bundle is not mounted.
 pub fn mount_cause(alloc: Global, refusal: &MountRefusal) -> Result<Text, NoMemory>
@@ -29,7 +20,7 @@ pub fn mount_cause(alloc: Global, refusal: &MountRefusal) -> Result<Text, NoMemo
 }
 
 fn untrusted_cause(alloc: Global, ended: Ended) -> Result<Text, NoMemory>
-    ensures { IfOk result (λ t. t ≡ codes "bundle is not trusted: " ++ spec.ended_text ended) }
+    ensures { IfOk result (λ t. t ≡ codes "bundle is not trusted: " ++ ended_text ended) }
 {
     let ended = ended_text(alloc, ended)?;
     let ended = ended.as_str();
@@ -38,7 +29,7 @@ fn untrusted_cause(alloc: Global, ended: Ended) -> Result<Text, NoMemory>
 }
 
 fn failed_cause(alloc: Global, ended: Ended) -> Result<Text, NoMemory>
-    ensures { IfOk result (λ t. t ≡ codes "bundle mount failed: " ++ spec.ended_text ended) }
+    ensures { IfOk result (λ t. t ≡ codes "bundle mount failed: " ++ ended_text ended) }
 {
     let ended = ended_text(alloc, ended)?;
     let ended = ended.as_str();

@@ -11,7 +11,7 @@ mod refusal;
 mod spared;
 
 pub use bundle::{BundleRefusal, read_bundle};
-pub use cause::{bundle_cause, closing_cause, ended_text, mount_cause};
+pub use cause::{bundle_cause, closing_cause, mount_cause};
 pub use close::{Closing, close_bundle};
 pub use helper::{check_child, mount_child, mount_point, umount_child};
 pub use mount::mount_bundle;

@@ -8,3 +8,4 @@ pub mod Frames
 pub mod SameChild
 pub mod Runs
 pub mod Stops
+pub mod Endings

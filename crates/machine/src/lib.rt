@@ -4,6 +4,7 @@
 
 mod calls;
 mod copies;
+mod ended;
 mod law;
 mod reads;
 mod stops;
@@ -12,6 +13,7 @@ mod world;
 
 pub use calls::{CallStop, Machine, ReadStop, RunStop};
 pub use copies::{TryClone, copy_bytes, copy_items};
+pub use ended::ended_text;
 pub use law::held_joins;
 pub use reads::fill;
 pub use stops::{Fault, Stop};

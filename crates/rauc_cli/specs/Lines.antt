@@ -22,7 +22,8 @@ use Rattle.slot_writer.specs.Causes.{slot_cause}
 use Rattle.slot_writer.specs.declared.refusal.SlotWritten.{SlotWritten}
 use Rattle.boot_backends.specs.declared.refusal.BootRefusal.{BootRefusal}
 use Rattle.report_lines.specs.Lines.{text_if}
-use Rattle.slot_marks.specs.Causes.{boot_cause, mark_cause}
+use Rattle.boot_backends.specs.Words.{boot_cause}
+use Rattle.slot_marks.specs.Causes.{mark_cause}
 use Rattle.slot_marks.specs.declared.naming.Marked.{Marked}
 use Rattle.slot_marks.specs.declared.refusal.MarkRefusal.{MarkRefusal}
 use Rattle.status_report.specs.Texts.{status_text}

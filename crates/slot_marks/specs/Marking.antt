@@ -21,7 +21,7 @@ use Rattle.slot_marks.specs.declared.naming.Action.TheVariants as action
 use Rattle.slot_marks.specs.declared.naming.Marked.{Marked}
 use Rattle.slot_marks.specs.declared.refusal.MarkRefusal.{MarkRefusal}
 use Rattle.slot_marks.specs.declared.refusal.MarkRefusal.TheVariants as mark
-use Rattle.slot_marks.specs.Causes.{name_at}
+use Rattle.system_conf.specs.Slots.{name_at}
 use Rattle.slot_marks.specs.Choice.{asks_booted, asks_other, bootname_at, chosen}
 
 -- ---- the slot

@@ -1,75 +1,15 @@
 ghost use Rattle.std.specs.Prelude.{◌≡◌, ◌++◌, IfOk, codes, decimal};
-ghost use Rattle.child_steps.specs.Causes.{ended_text};
 ghost use Rattle.slot_status.specs.Causes.{status_cause};
 ghost use Rattle.status_file.specs.Status.{names_in};
+ghost use Rattle.system_conf.specs.Slots.{name_at};
 ghost use Rattle.slot_marks.specs.Causes as spec;
 
 use crate::MarkRefusal;
-use boot_backends::BootRefusal;
-use child_steps::ended_text;
-use machine::Ended;
+use boot_backends::boot_cause;
 use slot_status::{StatusRefusal, status_cause};
 use std::alloc::Global;
-use system_conf::{Slot, System};
+use system_conf::{Slot, System, name_at};
 use updater_text::{NoMemory, Text};
-
-// A program by its words, with a blank between each two.
-fn program_text(alloc: Global, argv: &[Text]) -> Result<Text, NoMemory>
-    ensures { IfOk result (λ t. t ≡ spec.program_text argv.now) }
-{
-    let words = argv.join(alloc, " ")?;
-    Ok(Text::from_string(words))
-}
-
-fn program_cause(alloc: Global, argv: &[Text], ended: Ended) -> Result<Text, NoMemory>
-    ensures { IfOk result (λ t. t ≡ spec.program_text argv.now ++ (codes " failed: " ++ ended_text ended)) }
-{
-    let program = program_text(alloc, argv)?;
-    let ended = ended_text(alloc, ended)?;
-    let program = program.as_str();
-    let ended = ended.as_str();
-    let cause = format!(in alloc; "{program} failed: {ended}")?;
-    Ok(Text::from_string(cause))
-}
-
-fn output_cause(alloc: Global, argv: &[Text]) -> Result<Text, NoMemory>
-    ensures { IfOk result (λ t. t ≡ spec.program_text argv.now ++ codes ": bad output") }
-{
-    let program = program_text(alloc, argv)?;
-    let program = program.as_str();
-    let cause = format!(in alloc; "{program}: bad output")?;
-    Ok(Text::from_string(cause))
-}
-
-fn unlisted_cause(alloc: Global, name: &Text) -> Result<Text, NoMemory>
-    ensures { IfOk result (λ t. t ≡ codes "no boot entry " ++ name.now) }
-{
-    let name = name.as_str();
-    let cause = format!(in alloc; "no boot entry {name}")?;
-    Ok(Text::from_string(cause))
-}
-
-/// Why the programs of a boot loader did not do what they were to, in one line without its end. The
-/// only error is out of memory.
-pub fn boot_cause(alloc: Global, refusal: &BootRefusal) -> Result<Text, NoMemory>
-    ensures { IfOk result (λ t. t ≡ spec.boot_cause refusal.now) }
-{
-    match refusal {
-        BootRefusal::Program { argv, ended } => program_cause(alloc, argv.as_slice(), *ended),
-        BootRefusal::Output { argv } => output_cause(alloc, argv.as_slice()),
-        BootRefusal::Unlisted { name } => unlisted_cause(alloc, name),
-    }
-}
-
-/// The name of the slot at a place.
-pub fn name_at(slots: &[Slot], at: usize) -> &str
-    ensures { result.now ≡ spec.name_at slots.now at }
-{
-    match slots.get(at) {
-        Some(slot) => slot.name.as_str(),
-        None => "",
-    }
-}
 
 fn no_slot_cause(alloc: Global, text: &Text) -> Result<Text, NoMemory>
     ensures { IfOk result (λ t. t ≡ codes "no such slot: " ++ text.now) }
@@ -87,7 +27,7 @@ fn many_cause(alloc: Global, count: u64) -> Result<Text, NoMemory>
 }
 
 fn no_bootname_cause(alloc: Global, slots: &[Slot], at: usize) -> Result<Text, NoMemory>
-    ensures { IfOk result (λ t. t ≡ codes "slot " ++ (spec.name_at slots.now at ++ codes " has no bootname")) }
+    ensures { IfOk result (λ t. t ≡ codes "slot " ++ (name_at slots.now at ++ codes " has no bootname")) }
 {
     let name = name_at(slots, at);
     let cause = format!(in alloc; "slot {name} has no bootname")?;

@@ -9,7 +9,7 @@ mod naming;
 mod noting;
 mod refusal;
 
-pub use cause::{boot_cause, mark_cause};
+pub use cause::mark_cause;
 pub use choice::slot_chosen;
 pub use marks::mark;
 pub use naming::{Action, Marked};

@@ -7,14 +7,13 @@ ghost use Rattle.slot_marks.specs.Choice.{bootname_at};
 ghost use Rattle.slot_marks.specs.Marking.{choice};
 ghost use Rattle.slot_marks.specs.Noting.{noted_by};
 
-use crate::cause::name_at;
 use crate::choosing::choose;
 use crate::naming::{boot_stop, bootname_text, line_of, mark_name};
 use crate::noting::{mark_and_put, prepare};
 use crate::{Action, MarkRefusal, Marked};
 use machine::{Machine, Stop};
 use std::alloc::Global;
-use system_conf::System;
+use system_conf::{System, name_at};
 
 // Marks the slot at a place, with no status file to be written.
 fn mark_slot<M: Machine>(

@@ -7,7 +7,7 @@ use Rattle.keyfile.proofs.Distinct.{same_text}
 use Rattle.system_conf.specs.declared.slot.Slot.{Slot}
 use Rattle.slot_writer.specs.declared.refusal.SlotRefusal.{SlotRefusal}
 use Rattle.slot_writer.specs.declared.refusal.SlotRefusal.TheVariants.{NoSuchSlot, BootedUnknown, Busy, ReadOnly, ArchiveImage, WrongType, MountsUnread, Mounted, Image}
-use Rattle.slot_writer.specs.Causes.{name_at}
+use Rattle.system_conf.specs.Slots.{name_at}
 use Rattle.machine.specs.declared.stops.Stop.{Stop}
 use Rattle.machine.specs.declared.stops.Stop.TheVariants.{Refused, Outside, NoMemory}
 use Rattle.slot_writer.specs.declared.refusal.SlotWritten.{SlotWritten}

@@ -1,14 +1,10 @@
 -- Why a slot is not written, in words.
-use Rattle.std.specs.Prelude.{ℕ, List, [], ◌++◌, codes, slice_get}
-use Rattle.std.specs.Option.{option_map_or}
+use Rattle.std.specs.Prelude.{ℕ, List, ◌++◌, codes}
 use Rattle.raw_writer.specs.Checking.{put_cause}
+use Rattle.system_conf.specs.Slots.{name_at}
 use Rattle.system_conf.specs.declared.slot.Slot.{Slot}
 use Rattle.slot_writer.specs.declared.refusal.SlotRefusal.{SlotRefusal}
 use Rattle.slot_writer.specs.declared.refusal.SlotRefusal.TheVariants as slot
-
--- the name of the slot at a place
-abbrev pub name_at : List Slot → ℕ → List ℕ
-name_at slots at = option_map_or (λ s. s.name) (slice_get slots at) []
 
 -- why an image is not written to a slot, which is named by its place in the configuration
 abbrev pub slot_cause : List Slot → List ℕ → SlotRefusal → List ℕ

@@ -18,7 +18,7 @@ use Rattle.running_system.specs.Running.{is_in_use, is_mounted, what_is_mounted,
 use Rattle.slot_writer.specs.declared.refusal.SlotRefusal.{SlotRefusal}
 use Rattle.machine.specs.declared.stops.Stop.TheVariants as stop
 use Rattle.slot_writer.specs.declared.refusal.SlotRefusal.TheVariants.{NoSuchSlot, BootedUnknown, Busy, ReadOnly, ArchiveImage, WrongType, MountsUnread, Mounted}
-use Rattle.slot_writer.specs.Causes.{name_at}
+use Rattle.system_conf.specs.Slots.{name_at}
 
 -- what is booted is not known, or the slot at the place is in use
 abbrev pub use_refusal : List Slot → Booted → ℕ → Option SlotRefusal

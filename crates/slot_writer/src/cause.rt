@@ -1,21 +1,12 @@
 ghost use Rattle.std.specs.Prelude.{◌≡◌, ◌++◌, IfOk, codes};
-ghost use Rattle.slot_writer.specs.Causes.{name_at, slot_cause};
+ghost use Rattle.system_conf.specs.Slots.{name_at};
+ghost use Rattle.slot_writer.specs.Causes.{slot_cause};
 
 use crate::SlotRefusal;
 use raw_writer::put_cause;
 use std::alloc::Global;
-use system_conf::{Slot, System};
+use system_conf::{Slot, System, name_at};
 use updater_text::{NoMemory, Text};
-
-// The name of the slot at this place.
-fn name_at(slots: &[Slot], at: usize) -> &str
-    ensures { result.now ≡ name_at slots.now at }
-{
-    match slots.get(at) {
-        Some(slot) => slot.name.as_str(),
-        None => "",
-    }
-}
 
 // What is the matter with the slot at this place.
 fn matter_at(alloc: Global, slots: &[Slot], at: usize, matter: &str) -> Result<Text, NoMemory>

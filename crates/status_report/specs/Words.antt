@@ -7,6 +7,7 @@ use Rattle.slot_graph.specs.declared.state.Booted.{Booted}
 use Rattle.slot_graph.specs.declared.state.Booted.TheVariants as booted
 use Rattle.slot_graph.specs.declared.state.SlotState.{SlotState}
 use Rattle.slot_graph.specs.declared.state.SlotState.TheVariants as state
+use Rattle.system_conf.specs.Slots.{name_at}
 use Rattle.system_conf.specs.declared.slot.Slot.{Slot}
 use Rattle.status_report.specs.declared.view.StatusView.{StatusView}
 
@@ -27,10 +28,6 @@ good_word good = if good then codes "good" else codes "bad"
 -- the same at a place, where it is told
 abbrev pub boot_status_at : StatusView → ℕ → Option Text
 boot_status_at v at = option_map good_word (slice_index_or v.good at None)
-
--- the name of the slot at a place
-abbrev pub name_at : List Slot → ℕ → Text
-name_at slots at = option_map_or (λ s. s.name) (slice_get slots at) []
 
 -- the name of the slot that a slot belongs to
 abbrev pub parent_name : List Slot → Slot → Option Text

@@ -3,15 +3,16 @@ ghost use Rattle.std.specs.Option.{option_map_or};
 ghost use Rattle.std.specs.List.{enumerate_from, flat_map};
 ghost use Rattle.report_lines.specs.Lines.{setting};
 ghost use Rattle.system_conf.specs.Reads.{system_configuration};
+ghost use Rattle.system_conf.specs.Slots.{name_at};
 ghost use Rattle.status_report.specs.Texts as spec;
 ghost use Rattle.status_report.specs.Words as word;
 
 use crate::StatusView;
-use crate::words::{boot_status_at, name_at, state_at};
+use crate::words::{boot_status_at, state_at};
 use report_lines::{decimal, text_or_none, write_numbered, write_setting};
 use slot_graph::Booted;
 use std::alloc::{AllocError, Global};
-use system_conf::{Slot, System};
+use system_conf::{Slot, System, name_at};
 use updater_text::{NoMemory, Text};
 
 /// Writes what there is to tell of the slots, for a shell.
@@ -55,7 +56,7 @@ fn write_system(
 }
 
 fn booted_name(slots: &[Slot], booted: Booted) -> &str
-    ensures { result.now ≡ word.booted_word (word.name_at slots.entry.now) booted }
+    ensures { result.now ≡ word.booted_word (name_at slots.entry.now) booted }
 {
     match booted {
         Booted::Slot(at) => name_at(slots, at),
@@ -65,7 +66,7 @@ fn booted_name(slots: &[Slot], booted: Booted) -> &str
 }
 
 fn primary_name(slots: &[Slot], primary: Option<usize>) -> &str
-    ensures { result.now ≡ option_map_or (word.name_at slots.entry.now) primary [] }
+    ensures { result.now ≡ option_map_or (name_at slots.entry.now) primary [] }
 {
     match primary {
         Some(at) => name_at(slots, at),
@@ -190,7 +191,7 @@ fn write_boot(
 }
 
 fn parent_or_none(slots: &[Slot], parent: Option<usize>) -> &str
-    ensures { result.now ≡ unwrap_or (option_map (word.name_at slots.entry.now) parent) [] }
+    ensures { result.now ≡ unwrap_or (option_map (name_at slots.entry.now) parent) [] }
 {
     match parent {
         Some(at) => name_at(slots, at),

@@ -1,11 +1,11 @@
-ghost use Rattle.std.specs.Prelude.{◌≡◌, [], IfOk, decimal, option_map, slice_get};
-ghost use Rattle.std.specs.Option.{option_map_or};
+ghost use Rattle.std.specs.Prelude.{◌≡◌, IfOk, decimal, option_map};
+ghost use Rattle.system_conf.specs.Slots.{name_at};
 ghost use Rattle.status_report.specs.Words as spec;
 
 use crate::StatusView;
 use slot_graph::{Booted, SlotState};
 use std::alloc::Global;
-use system_conf::Slot;
+use system_conf::{Slot, name_at};
 use updater_text::{NoMemory, Text};
 
 fn state_word(state: SlotState) -> &'static str
@@ -45,19 +45,9 @@ pub fn boot_status_at(view: &StatusView, at: usize) -> Option<&'static str>
     }
 }
 
-/// The name of the slot at a place.
-pub fn name_at(slots: &[Slot], at: usize) -> &str
-    ensures { result.now ≡ spec.name_at slots.entry.now at }
-{
-    match slots.get(at) {
-        Some(slot) => slot.name.as_str(),
-        None => "",
-    }
-}
-
 /// The name of the slot that a slot belongs to.
 pub fn parent_name(slots: &[Slot], parent: Option<usize>) -> Option<&str>
-    ensures { option_map (λ name. name.now) result ≡ option_map (spec.name_at slots.entry.now) parent }
+    ensures { option_map (λ name. name.now) result ≡ option_map (name_at slots.entry.now) parent }
 {
     match parent {
         Some(at) => Some(name_at(slots, at)),

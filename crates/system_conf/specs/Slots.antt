@@ -61,6 +61,10 @@ slot_of groups group = record {
 abbrev pub slots_of : List Group → List Slot
 slots_of groups = map (slot_of groups) (slot_groups groups)
 
+-- the name of the slot at a place; none has the empty name
+abbrev pub name_at : List Slot → ℕ → Text
+name_at slots at = option_map_or (λ s. s.name) (slice_get slots at) []
+
 -- the parent of the slot at a place
 abbrev pub parent_at : List Slot → ℕ → Option ℕ
 parent_at slots at = option_and_then (λ s. s.parent) (slice_get slots at)

@@ -26,5 +26,5 @@ pub use conf_refusal::ConfRefusal;
 use reader::Reader;
 pub use reading::read_system;
 pub use roots::root_of;
-pub use slot::{Slot, SlotKind};
+pub use slot::{Slot, SlotKind, name_at};
 pub use system::{Helpers, System};

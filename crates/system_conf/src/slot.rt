@@ -1,5 +1,5 @@
 ghost use Rattle.std.specs.Prelude.{◌≡◌};
-ghost use Rattle.system_conf.specs.Slots.{word_of};
+ghost use Rattle.system_conf.specs.Slots.{name_at, word_of};
 
 use updater_text::Text;
 
@@ -48,4 +48,14 @@ pub struct Slot {
     pub readonly: bool,
     /// Whether an image is written also where it is there already.
     pub install_same: bool,
+}
+
+/// The name of the slot at a place among these; empty where there is none. It takes no memory.
+pub fn name_at(slots: &[Slot], at: usize) -> &str
+    ensures { result.now ≡ name_at slots.now at }
+{
+    match slots.get(at) {
+        Some(slot) => slot.name.as_str(),
+        None => "",
+    }
 }
