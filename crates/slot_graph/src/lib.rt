@@ -2,6 +2,7 @@
 #![tactic(auto)]
 
 mod archive;
+mod job;
 mod kernel;
 mod mounted;
 mod roots;
@@ -9,6 +10,7 @@ mod state;
 mod told;
 
 pub use archive::is_archive;
+pub use job::Job;
 pub use mounted::{Mount, mounts};
 pub use roots::root_of;
 pub use state::{Booted, SlotState, states};
