@@ -5,6 +5,7 @@ mod bundle;
 mod bundle_text;
 mod cause;
 mod content;
+mod copies;
 mod file_names;
 mod image;
 mod image_groups;

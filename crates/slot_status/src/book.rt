@@ -7,7 +7,6 @@ ghost use Rattle.slot_status.specs.Records.{book_of, no_record, record_at};
 ghost use Rattle.slot_status.specs.Refusals.{activate_refusal, finish_refusal, ready_refusal, unless_refused};
 ghost use Rattle.slot_status.specs.Texts.{are_slot_names, book_text};
 
-use crate::bundle::copy_bundle;
 use crate::refusal::refusal_of;
 use crate::time::time_text;
 use crate::writing::put_slot;
@@ -121,7 +120,7 @@ impl StatusBook {
         if let Some(why) = refusal_of(slot, now, ended) {
             return Err(Lack::Refused(why));
         }
-        let bundle = copy_bundle(self.alloc, bundle)?;
+        let bundle = bundle.copy(self.alloc)?;
         let ok = Text::new(self.alloc, "ok")?;
         let time = time_text(self.alloc, now.unsigned_abs())?;
         self.records[slot].finish(bundle, ok, file, time);

@@ -7,7 +7,7 @@ use crate::values::read_text;
 use keyfile::KeyFile;
 use manifest::BundleText;
 use std::alloc::Global;
-use updater_text::{NoMemory, Text};
+use updater_text::NoMemory;
 
 /// What a group says of a bundle; None where `bundle.compatible` is not there.
 pub fn read_bundle(
@@ -30,30 +30,4 @@ pub fn read_bundle(
         description,
         build,
     }))
-}
-
-// The same text, where there is one.
-fn copy_if_any(alloc: Global, text: &Option<Text>) -> Result<Option<Text>, NoMemory>
-    ensures { IfOk result (λ t. t ≡ text.now) }
-{
-    match text {
-        Some(text) => Ok(Some(text.copy(alloc)?)),
-        None => Ok(None),
-    }
-}
-
-/// What a bundle says of itself, once more.
-pub fn copy_bundle(alloc: Global, bundle: &BundleText) -> Result<BundleText, NoMemory>
-    ensures { IfOk result (λ b. bundle_content b ≡ bundle_content bundle.now) }
-{
-    let compatible = bundle.compatible.copy(alloc)?;
-    let version = copy_if_any(alloc, &bundle.version)?;
-    let description = copy_if_any(alloc, &bundle.description)?;
-    let build = copy_if_any(alloc, &bundle.build)?;
-    Ok(BundleText {
-        compatible,
-        version,
-        description,
-        build,
-    })
 }

@@ -29,5 +29,5 @@ returns-clause-ok c =
     let time : c.in_ok-time.time ≡ time_text (unsigned_abs c.args.now) = c.in_ok-time.ensures ∙ ap time_text c.unsigned_abs.ensures.value ∙ ap (λ (z : ℤ). time_text (unsigned_abs z)) (to_z-of_z w64 c.args.now c.ranges.now) in
     let file = option_copied c.args.file in
     record_changed (finish_record (bundle_content c.args.bundle.now) file (time_text (unsigned_abs c.args.now))) c.self.inside.records.items c.args.slot old c.finish.new.self c.index_mut.ensures.value
-    (c.finish.ensures ∙ (λ i. finish_record (c.in_ok-bundle.ensures i) file (time i) (record_content old)))
+    (c.finish.ensures ∙ (λ i. finish_record (bundle_content (c.in_ok-bundle.ensures i)) file (time i) (record_content old)))
     ∙ ap (finished c.args.slot (bundle_content c.args.bundle.now) file c.args.now) c.self.view_is
