@@ -1,5 +1,8 @@
-//! Tests of which slots run, what is mounted and which files are archives.
+//! Tests of which slots run, which images go to which slots, what is mounted and which files are
+//! archives.
 #![tactic(auto)]
 
+#[cfg(test)]
+mod assign_tests;
 #[cfg(test)]
 mod slot_tests;

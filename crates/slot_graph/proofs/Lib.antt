@@ -1,2 +1,6 @@
+mod Classes
+mod FreeRoots
+mod Listed
+mod Placing
 mod Ranges
 mod StateLemmas

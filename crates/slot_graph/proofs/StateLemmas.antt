@@ -1,6 +1,6 @@
 -- What is booted, and the state of each slot, by the roots that the slots lie under.
 use Rattle.std.proofs.Common.{◌≡◌, ◌<◌, ◌+◌, ◌⊎◌, inl, inr, ⊎_elim, ℕ, Bool, true, false, cond, eqb, List, [], ◌∷◌, length, Option, Some, None, slice_get, refl, sym, ◌∙◌, subst, codes, arith}
-use Rattle.std.specs.Prelude.{IsTrue, position, MatchBool}
+use Rattle.std.specs.Prelude.{position, MatchBool}
 use Rattle.std.specs.List.{range_with_len}
 use Rattle.std.specs.Str.{bytes_eq}
 use Rattle.std.proofs.lemmas.Bool.Decides.{eqb_tells}

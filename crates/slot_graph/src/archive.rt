@@ -25,8 +25,8 @@ fn has_tar(name: &[u8]) -> bool
         .any(|part| is_tar(part))
 }
 
-// Whether the file of this name is an archive.
-fn is_archive_name(name: &[u8]) -> bool
+/// Whether the file of this name is an archive.
+pub fn is_archive_name(name: &[u8]) -> bool
     ensures { result ≡ is_archive_name name.now }
 {
     name.ends_with(b".catar") || has_tar(name)
