@@ -1,5 +1,5 @@
 -- What the table of refusals says, row by row, and what an accepted image says.
-use Rattle.std.proofs.Common.{◌≡◌, ◌≤◌, ◌<◌, ◌⊎◌, ⊎_elim, ℕ, true, false, List, [], Option, Some, None, Result, Ok, Err, length, refl, ◌∙◌, ap, subst, arith, is_some, unwrap_or, if◌then◌else◌}
+use Rattle.std.proofs.Common.{◌≡◌, ◌≤◌, ◌<◌, ◌⊎◌, ⊎_elim, ℕ, Bool, IsTrue, true, false, List, [], Option, Some, None, Result, Ok, Err, length, refl, sym, ◌∙◌, ap, subst, arith, is_some, unwrap_or, if◌then◌else◌}
 use Rattle.std.specs.Prelude.{◌==◌, nat_lt}
 use Rattle.std.specs.Option.{option_map}
 use Rattle.std.proofs.lemmas.Bool.Decides.{nat_tests}
@@ -7,9 +7,14 @@ use Rattle.machine.specs.declared.world.World.{World}
 use Rattle.machine.specs.World.{length_under, disk_length, disk, file, readable, HoldsUpTo}
 use Rattle.machine.specs.Stops.{Settles}
 use Rattle.machine.specs.declared.stops.Stop.{Stop}
+use Rattle.machine.specs.Calls.{WriteFits}
+use Rattle.machine.specs.Frames.{Unchanged}
+use Rattle.machine.specs.Past.{Past, world_now}
+use Rattle.machine.proofs.Joins.{now_unchanged}
 use Rattle.raw_writer.specs.declared.check.PutRefusal.{PutRefusal}
 use Rattle.raw_writer.specs.declared.check.PutRefusal.TheVariants.{NoImage, NoDevice, ImageTooLarge}
 use Rattle.raw_writer.specs.Checking.{check_of, SettlesLength}
+use Rattle.raw_writer.specs.Putting.{HasLength}
 
 same_size : (n : ℕ) → (n == n) ≡ true
 same_size n = grind (arith, nat_tests)
@@ -82,3 +87,14 @@ check_room w image device size e = (accepted w image device size e).1
 pub check_length : (w : World) (image device : List ℕ) (size : ℕ) → check_of w image None (Some device) ≡ Ok size → length (readable w image) ≡ size
 unfolding readable
 check_length w image device size e = readable_long (disk w image) (file w image) size (accepted w image device size e).0
+
+-- so it does later on, where nothing changed
+module _ (t : Bool) (image device : List ℕ) (size : ℕ) (a b : Past) (unchanged : Unchanged t a b) (checked : IsTrue t → check_of (world_now a) image None (Some device) ≡ Ok size) where
+  pub checked_later : IsTrue t → check_of (world_now b) image None (Some device) ≡ Ok size
+  checked_later told = subst (λ (w : World). check_of w image None (Some device) ≡ Ok size) (sym (now_unchanged t a b unchanged told)) (checked told)
+
+  pub room_checked : WriteFits t b device size
+  room_checked = record { room = λ told. check_room (world_now b) image device size (checked_later told) }
+
+  pub length_checked : HasLength t b image size
+  length_checked = record { is = λ told. check_length (world_now b) image device size (checked_later told) }

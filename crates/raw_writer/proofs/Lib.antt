@@ -3,3 +3,5 @@ pub mod Pieces
 pub mod Copied
 pub mod Order
 pub mod Stopping
+pub mod Putting
+pub mod Asking

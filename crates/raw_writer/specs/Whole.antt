@@ -91,6 +91,13 @@ WholeEnds image device piece size old w (Err (Short found)) = IsShort image devi
 WholeEnds image device piece size old w (Err (Outside fault)) = Unit {0}
 WholeEnds image device piece size old w (Err NoMemory) = Unit {0}
 
+-- told or not: an image that ended early ended before this
+abbrev pub ShortOf : {T : Type 0} → ℕ → Result T WholeStop → Type 0
+ShortOf size (Ok x) = Unit {0}
+ShortOf size (Err (Short found)) = found < size
+ShortOf size (Err (Outside fault)) = Unit {0}
+ShortOf size (Err NoMemory) = Unit {0}
+
 -- why a whole write stops where a call of this kind stopped
 abbrev pub whole_stop : CallStop → Fault → WholeStop
 whole_stop call.Failed fault = Outside fault

@@ -2,7 +2,7 @@ ghost use Rattle.std.specs.Prelude.{◌≡◌, ◌<◌, ◌+◌, ◌^◌, length
 ghost use Rattle.machine.specs.Past.{Fails, world_now};
 ghost use Rattle.machine.specs.Calls.{WriteFits};
 ghost use Rattle.machine.specs.Frames.{CrashChangesOnly, ChangesOnly};
-ghost use Rattle.raw_writer.specs.Whole.{CopiesInOrder, OneWriteAtMost, PieceEnds, WholeCounted, WholeEnds, WritesInOrder, pieces, whole_fault, whole_stop};
+ghost use Rattle.raw_writer.specs.Whole.{CopiesInOrder, OneWriteAtMost, PieceEnds, ShortOf, WholeCounted, WholeEnds, WritesInOrder, pieces, whole_fault, whole_stop};
 
 use machine::{CallStop, Fault, Machine, fill};
 use sha2::{Digest as Hash, Sha256};
@@ -40,6 +40,7 @@ fn copy_piece<M: Machine>(
     requires fits { WriteFits M.tells (M.past m.old) device.now (at + length piece.old) }
     ensures writes { ChangesOnly M.tells device.now at (at + length piece.old) (M.past m.old) (M.past m.new) }
     ensures once { OneWriteAtMost M.tells device.now at (length piece.old) (M.past m.old) (M.past m.new) }
+    ensures short { ShortOf (at + length piece.old) result }
     ensures ends { IsTrue M.tells → PieceEnds image.now device.now at piece.new (world_now (M.past m.old)) (world_now (M.past m.new)) result }
     ensures fails { Fails M.tells (M.past m.old) (M.past m.new) (whole_fault result) }
     ensures counts { WholeCounted (M.faults m.old) (M.faults m.new) (M.wants m.old) (M.wants m.new) result }
@@ -80,6 +81,7 @@ pub fn write_whole<M: Machine>(
     // No more than the front of the device has changed, and so wherever the power stops.
     ensures writes { ChangesOnly M.tells device.now 0 size (M.past m.old) (M.past m.new) }
     ensures held { CrashChangesOnly M.tells device.now 0 size (M.past m.old) (M.past m.new) }
+    ensures short { ShortOf size result }
     ensures ends { IsTrue M.tells → WholeEnds image.now device.now (length buffer.old) size (world_now (M.past m.old)) (world_now (M.past m.new)) result }
     ensures fails { Fails M.tells (M.past m.old) (M.past m.new) (whole_fault result) }
     ensures counts { WholeCounted (M.faults m.old) (M.faults m.new) (M.wants m.old) (M.wants m.new) result }

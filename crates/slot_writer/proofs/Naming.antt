@@ -14,6 +14,8 @@ use Rattle.slot_writer.specs.declared.refusal.SlotWritten.{SlotWritten}
 use Rattle.slot_writer.specs.Checks.{IfRefused, IsAbout, NamesSlot}
 use Rattle.updater_text.specs.declared.digest.Digest.{Digest}
 use Rattle.raw_writer.specs.declared.check.PutRefusal.{PutRefusal}
+use Rattle.raw_writer.specs.declared.check.PutRefusal.TheVariants.{NoImage, ImageSize, NoDevice, ImageTooLarge, ImageDigest}
+use Rattle.raw_writer.specs.Checking.{NoDigestRefused}
 use Rattle.raw_writer.specs.declared.whole.WholeStop.{WholeStop}
 use Rattle.raw_writer.specs.declared.whole.WholeStop.TheVariants as whole
 use Rattle.slot_writer.specs.Slots.{image_stop, slot_named, whole_answer}
@@ -34,7 +36,11 @@ names_about slots name image at (ArchiveImage path) is about = about
 names_about slots name image at (WrongType slot) is about = ap (name_at slots) about ∙ named_there slots name at is
 names_about slots name image at MountsUnread is about = tt
 names_about slots name image at (Mounted slot) is about = ap (name_at slots) about ∙ named_there slots name at is
-names_about slots name image at (Image refusal) is about = tt
+names_about slots name image at (Image (NoImage path)) is about = tt
+names_about slots name image at (Image (ImageSize stated found)) is about = tt
+names_about slots name image at (Image (NoDevice path)) is about = tt
+names_about slots name image at (Image (ImageTooLarge size device)) is about = tt
+names_about slots name image at (Image (ImageDigest stated found)) is about = about
 
 pub named_as : (slots : List Slot) (name image : List ℕ) (at : ℕ) (result : Result SlotWritten (Stop SlotRefusal)) → slot_named slots name ≡ Some at → IfRefused result (IsAbout at image) → IfRefused result (NamesSlot slots name image)
 named_as slots name image at (Ok written) is about = tt
@@ -50,10 +56,14 @@ whole_about slot size unread image (Err (whole.Short found)) = tt
 whole_about slot size unread image (Err whole.NoMemory) = tt
 
 -- nor does a check of the image
-pub image_about : (slot : ℕ) (image : List ℕ) (stop : Stop PutRefusal) → IfRefused {T = SlotWritten} (Err (image_stop stop)) (IsAbout slot image)
-image_about slot image (Refused refusal) = tt
-image_about slot image (Outside kind) = tt
-image_about slot image NoMemory = tt
+pub image_about : (slot : ℕ) (image : List ℕ) (stop : Stop PutRefusal) → NoDigestRefused {T = ℕ} (Err stop) → IfRefused {T = SlotWritten} (Err (image_stop stop)) (IsAbout slot image)
+image_about slot image (Refused (NoImage path)) h = tt
+image_about slot image (Refused (ImageSize stated found)) h = tt
+image_about slot image (Refused (NoDevice path)) h = tt
+image_about slot image (Refused (ImageTooLarge size device)) h = tt
+image_about slot image (Refused (ImageDigest stated found)) h = h
+image_about slot image (Outside kind) h = tt
+image_about slot image NoMemory h = tt
 
 -- what a step refuses is refused by the whole
 pub about_passed : (stop : Stop SlotRefusal) (P : SlotRefusal → Type 0) → IfRefused {T = Unit {0}} (Err stop) P → IfRefused {T = SlotWritten} (Err stop) P

@@ -32,7 +32,7 @@ use Rattle.slot_writer.specs.declared.refusal.SlotRefusal.{SlotRefusal}
 use Rattle.slot_writer.specs.declared.refusal.SlotRefusal.TheVariants.{Image}
 use Rattle.slot_writer.specs.declared.refusal.SlotWritten.{SlotWritten}
 use Rattle.slot_writer.specs.Checks.{SlotCheck, pass_unless}
-use Rattle.slot_writer.specs.Noting.{HasLength, IsBegun, IsNote, StepKept, Steps, begun_world, cut_refusal, image_refusal, with_text}
+use Rattle.slot_writer.specs.Noting.{IsBegun, IsNote, StepKept, Steps, begun_world, cut_refusal, image_refusal, with_text}
 use Rattle.slot_writer.specs.Slots.{piece, checked_answer, device_at, put_answer, IsPut, PutKept, Puts, image_stop, unless, whole_answer, written_answer, written_slot}
 use Rattle.slot_writer.proofs.Begun.{is_begun, noted_world, text_disks}
 use Rattle.slot_writer.proofs.Checking.{settled_as}
@@ -104,16 +104,6 @@ puts_checked t system image slot a b NoMemory unchanged answers fails = puts_sto
 
 -- it passed the image
 module _ (t : Bool) (system : Configuration) (image : List ℕ) (slot size : ℕ) (a b : Past) (unchanged : Unchanged t a b) (checked : IsTrue t → check_of (world_now a) image None (Some (device_at system.slots slot)) ≡ Ok size) where
-  pub checked_later : IsTrue t → check_of (world_now b) image None (Some (device_at system.slots slot)) ≡ Ok size
-  checked_later told =
-      subst (λ (w : World). check_of w image None (Some (device_at system.slots slot)) ≡ Ok size) (sym (now_unchanged t a b unchanged told)) (checked told)
-
-  pub room_checked : WriteFits t b (device_at system.slots slot) size
-  room_checked = record { room = λ told. check_room (world_now b) image (device_at system.slots slot) size (checked_later told) }
-
-  pub length_checked : HasLength t b image size
-  length_checked = record { is = λ told. check_length (world_now b) image (device_at system.slots slot) size (checked_later told) }
-
   pub puts_passed : (c : Past) (result : Result SlotWritten (Stop SlotRefusal)) → Fails t a b None → Puts t system image (written_answer system slot image (world_now b) size) b c result → Puts t system image (put_answer system slot image (world_now a)) a c result
   puts_passed c result fine rest =
       puts_later t system image (written_answer system slot image (world_now b) size) (put_answer system slot image (world_now a)) a b c result unchanged fine

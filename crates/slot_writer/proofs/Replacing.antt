@@ -18,10 +18,11 @@ use Rattle.machine.proofs.Only.{bytes_of}
 use Rattle.machine.proofs.Sparing.{file-replaced, file-replaced_other}
 use Rattle.machine.proofs.Worlds.{by_path}
 use Rattle.raw_writer.specs.declared.check.PutRefusal.TheVariants.{ImageSize}
+use Rattle.raw_writer.specs.Putting.{HasLength}
 use Rattle.slot_writer.specs.declared.refusal.SlotRefusal.{SlotRefusal}
 use Rattle.slot_writer.specs.declared.refusal.SlotRefusal.TheVariants.{Image}
 use Rattle.slot_writer.specs.Checks.{SlotCheck, pass_unless}
-use Rattle.slot_writer.specs.Noting.{HasLength, NoneRefused, StepKept, Steps, cut_refusal, image_refusal}
+use Rattle.slot_writer.specs.Noting.{NoneRefused, StepKept, Steps, cut_refusal, image_refusal}
 
 -- ---- two paths, by their test
 

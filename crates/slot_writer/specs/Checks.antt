@@ -6,6 +6,7 @@ use Rattle.machine.specs.Past.{Past, Fails}
 use Rattle.machine.specs.Frames.{Unchanged}
 use Rattle.machine.specs.Stops.{Settles, stop_fault}
 use Rattle.conf_forms.specs.Lists.{or_else}
+use Rattle.raw_writer.specs.declared.check.PutRefusal.TheVariants.{ImageDigest}
 use Rattle.system_conf.specs.declared.slot.Slot.{Slot}
 use Rattle.system_conf.specs.declared.slot.SlotKind.{SlotKind}
 use Rattle.system_conf.specs.declared.slot.SlotKind.TheVariants.{Unwritten}
@@ -17,7 +18,7 @@ use Rattle.slot_graph.specs.Booted.{state_of}
 use Rattle.running_system.specs.Running.{is_in_use, is_mounted, what_is_mounted, what_runs}
 use Rattle.slot_writer.specs.declared.refusal.SlotRefusal.{SlotRefusal}
 use Rattle.machine.specs.declared.stops.Stop.TheVariants as stop
-use Rattle.slot_writer.specs.declared.refusal.SlotRefusal.TheVariants.{NoSuchSlot, BootedUnknown, Busy, ReadOnly, ArchiveImage, WrongType, MountsUnread, Mounted}
+use Rattle.slot_writer.specs.declared.refusal.SlotRefusal.TheVariants.{NoSuchSlot, BootedUnknown, Busy, ReadOnly, ArchiveImage, WrongType, MountsUnread, Mounted, Image}
 use Rattle.system_conf.specs.Slots.{name_at}
 
 -- what is booted is not known, or the slot at the place is in use
@@ -57,7 +58,7 @@ abbrev pub pass_unless : Option SlotRefusal → Result (Unit {0}) SlotRefusal
 pass_unless None = Ok tt
 pass_unless (Some refusal) = Err refusal
 
--- a slot that a refusal names by its place is this one, and an image that it names this one
+-- a slot that a refusal names by its place is this one, and an image that it names this one; no digest is stated
 abbrev pub IsAbout : ℕ → List ℕ → SlotRefusal → Type 0
 IsAbout at image (NoSuchSlot text) = ⊥
 IsAbout at image (Busy slot) = slot ≡ at
@@ -65,6 +66,7 @@ IsAbout at image (ReadOnly slot) = slot ≡ at
 IsAbout at image (WrongType slot) = slot ≡ at
 IsAbout at image (Mounted slot) = slot ≡ at
 IsAbout at image (ArchiveImage path) = path ≡ image
+IsAbout at image (Image (ImageDigest stated found)) = ⊥
 IsAbout at image refusal = Unit {0}
 
 -- the same by the slot's name, whether or not a slot has it
@@ -75,6 +77,7 @@ NamesSlot slots name image (ReadOnly slot) = name_at slots slot ≡ name
 NamesSlot slots name image (WrongType slot) = name_at slots slot ≡ name
 NamesSlot slots name image (Mounted slot) = name_at slots slot ≡ name
 NamesSlot slots name image (ArchiveImage path) = path ≡ image
+NamesSlot slots name image (Image (ImageDigest stated found)) = ⊥
 NamesSlot slots name image refusal = Unit {0}
 
 -- this holds of the refusal, where it is one

@@ -61,10 +61,6 @@ cut_refusal size found = if nat_lt found size then Some (Image (ImageSize size f
 abbrev pub image_refusal : List ℕ → ℕ → World → Option SlotRefusal
 image_refusal image size begun = cut_refusal size (length (readable begun image))
 
--- where told, the image has this length
-pub record HasLength (tells : Bool) (past : Past) (image : List ℕ) (size : ℕ) : Type 0 where
-  pub is : IsTrue tells → length (readable (world_now past) image) ≡ size
-
 -- each world on the way: as before or as it is to be, and as before where that is refused
 abbrev pub StepKept : Option SlotRefusal → World → World → World → Type 0
 StepKept None next w u = (u ≡ w) ⊎ (u ≡ next)

@@ -4,6 +4,7 @@ ghost use Rattle.machine.specs.Frames.{ReplacesOnly, Unchanged};
 ghost use Rattle.machine.specs.Past.{Fails, world_now};
 ghost use Rattle.machine.specs.Stops.{StopCounted, stop_fault};
 ghost use Rattle.machine.specs.World.{with_file};
+ghost use Rattle.raw_writer.specs.Putting.{HasLength};
 ghost use Rattle.running_system.specs.Running.{FaultsCounted};
 ghost use Rattle.slot_status.specs.Changes.{begun};
 ghost use Rattle.slot_status.specs.Records.{book_of};
@@ -11,7 +12,7 @@ ghost use Rattle.slot_status.specs.Texts.{book_text};
 ghost use Rattle.status_file.specs.Status.{book_in, is_unread, names_in, status_bytes};
 ghost use Rattle.system_conf.specs.Reads.{system_configuration};
 ghost use Rattle.slot_writer.specs.Checks.{IfRefused, IsAbout, SlotCheck};
-ghost use Rattle.slot_writer.specs.Noting.{HasLength, IsNote, NoneRefused, Steps, image_refusal, with_text};
+ghost use Rattle.slot_writer.specs.Noting.{IsNote, NoneRefused, Steps, image_refusal, with_text};
 
 use crate::SlotRefusal;
 use machine::{CallStop, Fault, Machine, Stop};

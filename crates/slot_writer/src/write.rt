@@ -3,12 +3,13 @@ ghost use Rattle.machine.specs.Calls.{WriteFits};
 ghost use Rattle.machine.specs.Past.{world_now};
 ghost use Rattle.machine.specs.Stops.{StopCounted};
 ghost use Rattle.raw_writer.specs.Checking.{check_of};
+ghost use Rattle.raw_writer.specs.Putting.{HasLength};
 ghost use Rattle.running_system.specs.Running.{RunningKept, what_runs};
 ghost use Rattle.status_file.specs.Status.{is_unread, status_bytes};
 ghost use Rattle.status_file.specs.Truth.{TruthKept, stored_book};
 ghost use Rattle.system_conf.specs.Reads.{system_configuration};
 ghost use Rattle.slot_writer.specs.Checks.{IfRefused, IsAbout, NamesSlot};
-ghost use Rattle.slot_writer.specs.Noting.{HasLength, IsNote};
+ghost use Rattle.slot_writer.specs.Noting.{IsNote};
 ghost use Rattle.slot_writer.specs.Slots.{PutStops, Puts, device_at, image_stop, place_answer, put_answer, slot_answer, whole_answer, written_answer};
 
 use crate::checks::check_slot;

@@ -1,16 +1,17 @@
 use Rattle.machine.specs.declared.stops.Fault.TheVariants as fault
 use Rattle.machine.specs.declared.stops.Stop.TheVariants.{NoMemory, Outside}
 use Rattle.system_conf.specs.Reads.{system_configuration}
-use Rattle.slot_writer.proofs.Putting.{counted_later, length_checked, note_later, puts_prepared, puts_stop, room_checked}
+use Rattle.raw_writer.proofs.Checks.{length_checked, room_checked}
+use Rattle.slot_writer.proofs.Putting.{counted_later, note_later, puts_prepared, puts_stop}
 use Rattle.slot_writer.proofs.write.write_checked.Goals as goal
 
 pub write_noted-requires-clause-image : goal.write_noted-requires-clause-image
 write_noted-requires-clause-image g c =
-    length_checked _ (system_configuration c.args.system.now) c.args.image.now c.args.slot c.args.size _ _ c.in-Ok-prepare.ensures.unchanged c.requires.checked
+    length_checked _ c.args.image.now _ c.args.size _ _ c.in-Ok-prepare.ensures.unchanged c.requires.checked
 
 pub write_noted-requires-clause-device : goal.write_noted-requires-clause-device
 write_noted-requires-clause-device g c =
-    room_checked _ (system_configuration c.args.system.now) c.args.image.now c.args.slot c.args.size _ _ c.in-Ok-prepare.ensures.unchanged c.requires.checked
+    room_checked _ c.args.image.now _ c.args.size _ _ c.in-Ok-prepare.ensures.unchanged c.requires.checked
 
 pub write_noted-requires-clause-note : goal.write_noted-requires-clause-note
 write_noted-requires-clause-note g c =

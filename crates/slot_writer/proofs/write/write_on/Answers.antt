@@ -1,10 +1,11 @@
 use Rattle.system_conf.specs.Reads.{system_configuration}
-use Rattle.slot_writer.proofs.Putting.{checked_later, counted_later, puts_checked, puts_passed}
+use Rattle.raw_writer.proofs.Checks.{checked_later}
+use Rattle.slot_writer.proofs.Putting.{counted_later, puts_checked, puts_passed}
 use Rattle.slot_writer.proofs.write.write_on.Goals as goal
 
 pub write_checked-requires-clause-checked : goal.write_checked-requires-clause-checked
 write_checked-requires-clause-checked g c =
-    checked_later _ (system_configuration c.args.system.now) c.args.image.now c.args.slot c.in-Ok.size _ _ c.in-Ok.ensures.unchanged
+    checked_later _ c.args.image.now _ c.in-Ok.size _ _ c.in-Ok.ensures.unchanged
     (rw (c.device_at-device.ensures, c.as_slice.ensures) at c.in-Ok.ensures.answers)
 
 pub returns-in-Ok-clause-put : goal.returns-in-Ok-clause-put
