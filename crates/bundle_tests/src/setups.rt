@@ -92,3 +92,43 @@ pub fn bench_of(alloc: Global, ends: [Ended; 3], manifest: &str, fails: &[u64]) 
         _ => None,
     }
 }
+
+// The hook ends so, and puts this out as errors; its call may fail.
+fn push_hook(
+    setup: &mut Setup,
+    alloc: Global,
+    program: &str,
+    ended: Ended,
+    err: &[u8],
+    fails: bool,
+) -> Result<(), NoMemory> {
+    let program = Text::new(alloc, program)?;
+    let err = copy_bytes(alloc, err)?;
+    if fails {
+        setup.fails.push(1)?;
+    }
+    setup.scripts.push(Script {
+        program,
+        args: Items::new(alloc),
+        ended,
+        out: Items::new(alloc),
+        err,
+        effects: Items::new(alloc),
+    })
+}
+
+// A machine on which a hook ends so and puts this out as errors, or its call fails.
+pub fn hook_bench(
+    alloc: Global,
+    program: &str,
+    ended: Ended,
+    err: &[u8],
+    fails: bool,
+) -> Option<Bench> {
+    let mut setup = empty_setup(alloc);
+    let filled = push_hook(&mut setup, alloc, program, ended, err, fails).is_ok();
+    match Bench::new(alloc, setup) {
+        Ok(bench) if filled => Some(bench),
+        _ => None,
+    }
+}

@@ -1,3 +1,6 @@
 mod Loading
 pub mod Mounting
+mod PrintedTexts
 pub mod Unmounting
+mod Variables
+mod Words

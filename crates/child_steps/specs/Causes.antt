@@ -8,6 +8,8 @@ use Rattle.child_steps.specs.declared.bundle.BundleRefusal.{BundleRefusal}
 use Rattle.child_steps.specs.declared.bundle.BundleRefusal.TheVariants.{NoManifest, BadKeys, BadManifest}
 use Rattle.child_steps.specs.declared.close.Closing.{Closing}
 use Rattle.child_steps.specs.declared.close.Closing.TheVariants as closing
+use Rattle.child_steps.specs.declared.refusal.CheckRefusal.{CheckRefusal}
+use Rattle.child_steps.specs.declared.refusal.CheckRefusal.TheVariants.{Rejected, CheckFailed}
 use Rattle.child_steps.specs.declared.refusal.MountRefusal.{MountRefusal}
 use Rattle.child_steps.specs.declared.refusal.MountRefusal.TheVariants.{Untrusted, MountFailed}
 
@@ -21,6 +23,11 @@ abbrev pub bundle_cause : BundleRefusal → Text
 bundle_cause NoManifest = codes "no manifest"
 bundle_cause (BadKeys fault) = codes "manifest: " ++ key_cause fault
 bundle_cause (BadManifest refusal) = codes "manifest: " ++ manifest_cause refusal
+
+-- why a bundle is not installed, by its own hook
+abbrev pub check_cause : CheckRefusal → Text
+check_cause (Rejected line) = codes "bundle rejected: " ++ line
+check_cause (CheckFailed ended) = codes "install-check failed: " ++ ended_text ended
 
 -- why a bundle is still mounted, where it may be
 abbrev pub closing_cause : Closing → Option Text

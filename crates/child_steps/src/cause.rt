@@ -2,7 +2,7 @@ ghost use Rattle.std.specs.Prelude.{◌≡◌, ◌++◌, IfOk, codes};
 ghost use Rattle.machine.specs.Endings.{ended_text};
 ghost use Rattle.child_steps.specs.Causes as spec;
 
-use crate::{BundleRefusal, Closing, MountRefusal};
+use crate::{BundleRefusal, CheckRefusal, Closing, MountRefusal};
 use keyfile::key_cause;
 use machine::{Ended, ended_text};
 use manifest::manifest_cause;
@@ -58,6 +58,31 @@ fn of_manifest(alloc: Global, cause: &str) -> Result<Text, NoMemory>
     ensures { IfOk result (λ t. t ≡ codes "manifest: " ++ cause.now) }
 {
     Ok(Text::from_string(format!(in alloc; "manifest: {cause}")?))
+}
+
+/// Why a bundle is not installed, by its own hook.
+pub fn check_cause(alloc: Global, refusal: &CheckRefusal) -> Result<Text, NoMemory>
+    ensures { IfOk result (λ t. t ≡ spec.check_cause refusal.now) }
+{
+    match refusal {
+        CheckRefusal::Rejected { line } => rejected_cause(alloc, line.as_str()),
+        CheckRefusal::CheckFailed { ended } => check_failed_cause(alloc, *ended),
+    }
+}
+
+fn rejected_cause(alloc: Global, line: &str) -> Result<Text, NoMemory>
+    ensures { IfOk result (λ t. t ≡ codes "bundle rejected: " ++ line.now) }
+{
+    Ok(Text::from_string(format!(in alloc; "bundle rejected: {line}")?))
+}
+
+fn check_failed_cause(alloc: Global, ended: Ended) -> Result<Text, NoMemory>
+    ensures { IfOk result (λ t. t ≡ codes "install-check failed: " ++ ended_text ended) }
+{
+    let ended = ended_text(alloc, ended)?;
+    let ended = ended.as_str();
+    let cause = format!(in alloc; "install-check failed: {ended}")?;
+    Ok(Text::from_string(cause))
 }
 
 /// Why a bundle is still mounted, where it may be: how the unmount ended, `run` where it gave no end,

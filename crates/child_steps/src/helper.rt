@@ -44,8 +44,8 @@ fn helper(
     })
 }
 
-// One argument.
-fn one(alloc: Global, first: Text) -> Result<Items<Text>, NoMemory>
+/// One argument.
+pub fn one(alloc: Global, first: Text) -> Result<Items<Text>, NoMemory>
     ensures { IfOk result (λ args. args ≡ first ∷ []) }
 {
     let mut args = Items::new(alloc);

@@ -2,7 +2,9 @@ ghost use Rattle.std.specs.Prelude.{◌≡◌, ◌++◌, [], IfOk, OnOk, map};
 ghost use Rattle.std.specs.Option.{option_to_list};
 ghost use Rattle.system_conf.specs.Reads.{system_configuration};
 ghost use Rattle.child_steps.specs.Children as spec;
+ghost use Rattle.child_steps.specs.Hooks as hooks;
 
+use crate::helper::mount_point;
 use machine::Spares;
 use std::alloc::Global;
 use system_conf::{Slot, System};
@@ -56,6 +58,25 @@ pub fn helper_spares(
 {
     let disks = devices(alloc, system.slots.as_slice())?;
     let files = files(alloc, &system.status_file, more)?;
+    Ok(Spares {
+        disks,
+        files,
+        boot: true,
+    })
+}
+
+/// What a hook of a slot or a handler must leave alone: these disks, the status file, what is mounted,
+/// and the boot variables.
+pub fn install_spares(
+    alloc: Global,
+    system: &System,
+    disks: Items<Text>,
+) -> Result<Spares, NoMemory>
+    ensures { let c = system_configuration system.now in
+        IfOk result (λ spares. spares ≡ hooks.install_spares c disks) }
+{
+    let point = Some(mount_point(alloc, system)?);
+    let files = files(alloc, &system.status_file, &point)?;
     Ok(Spares {
         disks,
         files,
