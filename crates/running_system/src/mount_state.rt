@@ -1,7 +1,8 @@
-ghost use Rattle.std.specs.Prelude.{◌≡◌, IfOk, IsTrue, None};
+ghost use Rattle.std.specs.Prelude.{◌≡◌, IfOk, IsTrue, None, codes};
 ghost use Rattle.machine.specs.Calls.{call_fault};
 ghost use Rattle.machine.specs.Frames.{Unchanged};
 ghost use Rattle.machine.specs.Past.{Fails, world_now};
+ghost use Rattle.machine.specs.Runs.{ReadsOnce};
 ghost use Rattle.slot_graph.specs.Mounts.{mounts_of};
 ghost use Rattle.running_system.specs.Running.{Answers, FaultsCounted, is_mounted, what_is_mounted};
 
@@ -27,13 +28,14 @@ fn mounts_in(alloc: Global, text: &[u8]) -> Result<Option<Items<Mount>>, CallSto
     }
 }
 
-/// What is mounted, by `/proc/mounts`; None where that is missing or longer than 1,048,576 bytes. It
+/// What is mounted, by one read of `/proc/mounts`; None where that is missing or longer than 1,048,576 bytes. It
 /// gives `Failed` where the read fails, and `NoMemory` where memory is out.
 pub fn what_is_mounted<M: Machine>(
     alloc: Global,
     m: &mut M,
 ) -> Result<Option<Items<Mount>>, CallStop>
     ensures unchanged { Unchanged M.tells (M.past m.old) (M.past m.new) }
+    ensures once { IsTrue M.tells → ReadsOnce (codes "/proc/mounts") (M.past m.old) (M.past m.new) }
     ensures answers { Answers M.tells (what_is_mounted (world_now (M.past m.old))) result }
     ensures fails { Fails M.tells (M.past m.old) (M.past m.new) (call_fault Fault.Read result) }
     ensures counts { FaultsCounted (M.faults m.old) (M.faults m.new) (M.wants m.old) (M.wants m.new) result }

@@ -3,6 +3,8 @@ use Rattle.std.specs.Prelude.{◌≡◌, Bool, List, length, map, replicate, Opt
 use Rattle.std.specs.Result.{is_err, result_unwrap_or}
 use Rattle.keyfile.specs.Groups.{Text}
 use Rattle.keyfile.specs.declared.fault.KeyFault.{KeyFault}
+use Rattle.machine.specs.Past.{Past}
+use Rattle.machine.specs.Runs.{ReadsOnce}
 use Rattle.machine.specs.World.{file}
 use Rattle.machine.specs.declared.world.World.{World}
 use Rattle.slot_status.specs.Records.{RecordContent, book_of, no_record}
@@ -47,6 +49,14 @@ bytes_at status w = option_and_then (λ path. file w path) status
 -- the bytes of the status file of a system, where it has one and that is there
 abbrev pub status_bytes : Configuration → World → Option Text
 status_bytes s w = bytes_at s.status_file w
+
+-- at most one call was made: the status file was read; none, where there is none
+abbrev pub ReadsAt : Option Text → Past → Past → Type 0
+ReadsAt (Some path) old new = ReadsOnce path old new
+ReadsAt None old new = new ≡ old
+
+abbrev pub ReadsStatus : Configuration → Past → Past → Type 0
+ReadsStatus s old new = ReadsAt s.status_file old new
 
 -- this is what it says in a world
 abbrev pub IsStored : Configuration → World → StatusRead → Type 0

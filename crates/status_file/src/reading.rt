@@ -6,7 +6,7 @@ ghost use Rattle.machine.specs.Runs.{ReadsOnce};
 ghost use Rattle.machine.specs.World.{file};
 ghost use Rattle.running_system.specs.Running.{FaultsCounted};
 ghost use Rattle.system_conf.specs.Reads.{system_configuration};
-ghost use Rattle.status_file.specs.Status.{IsBlank, IsReadOf, IsStored, names_in};
+ghost use Rattle.status_file.specs.Status.{IsBlank, IsReadOf, IsStored, ReadsStatus, names_in};
 
 use machine::{CallStop, Fault, Machine, ReadStop};
 use slot_status::{StatusBook, read_book};
@@ -103,6 +103,7 @@ pub fn stored_status<M: Machine>(
     system: &System,
 ) -> Result<StatusRead, CallStop>
     ensures unchanged { Unchanged M.tells (M.past m.old) (M.past m.new) }
+    ensures once { IsTrue M.tells → ReadsStatus (system_configuration system.now) (M.past m.old) (M.past m.new) }
     ensures answers { IsTrue M.tells → IfOk result (IsStored (system_configuration system.now) (world_now (M.past m.old))) }
     ensures all { IfOk result (λ read. length read.book ≡ length system.now.slots) }
     ensures fails { Fails M.tells (M.past m.old) (M.past m.new) (call_fault Fault.Read result) }
