@@ -1,4 +1,4 @@
-//! Tests of the machine in memory, by its public calls alone.
+//! Tests of the machine in memory, by its public calls alone, and of images that are put on its disks.
 #![tactic(auto)]
 
 #[cfg(test)]
@@ -7,6 +7,8 @@ mod boot_tests;
 mod call_tests;
 #[cfg(test)]
 mod child_tests;
+#[cfg(test)]
+mod put_tests;
 #[cfg(test)]
 mod setups;
 #[cfg(test)]

@@ -1,15 +1,24 @@
 use crate::setups::{DISK, FILE, MOUNT, SPARED, push_texts};
 use machine::{
-    CallStop, Child, ChildClass, Ended, Exit, Machine, Named, ReadStop, RunStop, Spares, World,
-    fill,
+    CallStop, Child, ChildClass, Ended, Exit, Fault, Machine, Named, ReadStop, RunStop, Spares,
+    Stop, World, fill,
 };
 use machine_bench::Bench;
+use raw_writer::{PutJob, PutRefusal, Written, check_image, put_image};
 use std::alloc::Global;
 use undo_log::bytes_of;
-use updater_text::{Items, NoMemory, Text};
+use updater_text::{Digest, Items, NoMemory, Text};
 
 // Paths, and what is there, if anything.
 type Rows = &'static [(&'static str, Option<&'static [u8]>)];
+
+// How an image is put on a disk: it is, or it has this SHA-256 and not the stated one, or a call of
+// this kind fails.
+pub enum PutEnd {
+    Whole,
+    Differs(&'static str),
+    Fails(Fault),
+}
 
 // A call with the answer that it should have, or what the bench should be like.
 pub enum Step {
@@ -31,6 +40,8 @@ pub enum Step {
     Run(&'static str, &'static [&'static str], Option<(Ended, usize, bool)>),
     // How the boot program at `MOUNT` ends, and what it puts out, where that does not fail.
     Boot(&'static [&'static str], Option<(Ended, &'static str)>),
+    // How an image is put on the disk, in pieces of two bytes, where this SHA-256 is stated of it.
+    Put(&'static str, &'static str, PutEnd),
     // The value of a boot variable, if there is one.
     Variable(&'static str, Option<&'static str>),
     // The bytes of disks and files, and how many ranges are pending, writes and runs were made, calls
@@ -189,6 +200,61 @@ fn boots_program(m: &mut Bench, alloc: Global, args: &[&str], end: Option<(Ended
     }
 }
 
+fn is_whole(written: &Written, stated: &Digest) -> bool {
+    let blocks = [written.kept, written.borrowed, written.fetched];
+    written.digest == *stated && blocks == [0; 3] && written.whole
+}
+
+fn ends_put(put: Result<Written, Stop<PutRefusal>>, digest: &Digest, end: &PutEnd) -> bool {
+    match (put, end) {
+        (Ok(written), PutEnd::Whole) => is_whole(&written, digest),
+        (Err(Stop::Refused(PutRefusal::ImageDigest { stated, found })), PutEnd::Differs(seen)) => {
+            stated == *digest && Digest::read(seen) == Some(found)
+        }
+        (Err(Stop::Outside(kind)), PutEnd::Fails(seen)) => kind == *seen,
+        _ => false,
+    }
+}
+
+// No block index is used.
+fn puts_paths(
+    m: &mut Bench,
+    alloc: Global,
+    image: Text,
+    device: Text,
+    stated: Digest,
+    end: &PutEnd,
+) -> bool {
+    match check_image(alloc, m, image.as_str(), None, Some(device.as_str())) {
+        Ok(size) => {
+            let job = PutJob {
+                image,
+                device,
+                size,
+                digest: stated,
+                index: None,
+                active_device: None,
+                active_index: None,
+            };
+            let put = put_image(m, &job, &mut [0; 2]);
+            drop(job);
+            ends_put(put, &stated, end)
+        }
+        Err(_) => false,
+    }
+}
+
+fn puts_image(m: &mut Bench, alloc: Global, image: &str, stated: &str, end: &PutEnd) -> bool {
+    match (
+        Text::new(alloc, image),
+        Text::new(alloc, DISK),
+        Digest::read(stated),
+    ) {
+        (Ok(image), Ok(device), Some(stated)) => puts_paths(m, alloc, image, device, stated, end),
+        _ => false,
+    }
+}
+
 fn has_variable(m: &Bench, name: &str, value: Option<&str>) -> bool {
     match m.world() {
         Ok(world) => {
@@ -261,6 +327,7 @@ fn is_right(m: &mut Bench, alloc: Global, step: &Step) -> bool {
         Step::Now(seconds) => tells(m, *seconds),
         Step::Run(program, args, end) => runs_program(m, alloc, program, args, *end),
         Step::Boot(args, end) => boots_program(m, alloc, args, *end),
+        Step::Put(image, stated, end) => puts_image(m, alloc, image, stated, end),
         Step::Variable(name, value) => has_variable(m, name, *value),
         Step::See(disks, files, counts) => sees(m, disks, files, counts),
     }
