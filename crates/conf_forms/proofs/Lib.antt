@@ -1,3 +1,4 @@
+pub mod Distinct
 mod Entries
 pub mod FirstOf
 mod Items

@@ -1,3 +1,4 @@
+mod Classes
 mod Groups
 mod Lacking
 mod Passed

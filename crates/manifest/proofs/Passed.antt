@@ -148,7 +148,7 @@ pub is_image : (groups : List Group) (i : ℕ) (d : Text) → i < length (image_
 is_image groups i d within = filtered is_image_group (map (λ (g : Group). g.0) groups) i d within
 
 -- the keys of an image are those of the table
-image_named : (g : Text) → is_image_group g ≡ true → (g ≡ codes "image." ++ class_of g) × (is_class (class_of g) ≡ true)
+pub image_named : (g : Text) → is_image_group g ≡ true → (g ≡ codes "image." ++ class_of g) × (is_class (class_of g) ≡ true)
 image_named g h =
     let both = and_parts (starts_with nat_eq g (codes "image.")) (is_class (class_of g)) h in
     let front : take 6 g ≡ codes "image." = sym ((bytes_eq-Decides (codes "image.") (take 6 g)).0 both.0) in

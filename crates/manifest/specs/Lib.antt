@@ -1,5 +1,6 @@
 pub mod Causes
 pub mod Contents
+pub mod Distinct
 pub mod Hooked
 pub mod Images
 pub mod KeyTable

@@ -1,5 +1,6 @@
-ghost use Rattle.std.specs.Prelude.{◌≡◌, ◌++◌, [], ◌∷◌, IfOk, IsSome, OnOk, Some, filter, is_some, option_copied};
-ghost use Rattle.std.specs.List.{list_any};
+ghost use Rattle.std.specs.Prelude.{◌≡◌, ◌++◌, [], ◌∷◌, IfOk, IsSome, OnOk, Some, filter, is_some, map, option_copied};
+ghost use Rattle.std.specs.List.{IsDistinct, list_any};
+ghost use Rattle.std.specs.Str.{bytes_eq};
 ghost use Rattle.manifest.specs.Images as spec;
 
 use conf_forms::{Form, has_item, is_class, value_with_form};
@@ -9,7 +10,8 @@ use updater_text::{Digest, NoMemory, Text, read_number};
 
 /// The groups of the images, in file order.
 pub fn image_groups(alloc: Global, file: &KeyFile) -> Result<Vec<Text>, NoMemory>
-    ensures { IfOk result (λ found. found.items ≡ spec.image_groups file.now) }
+    ensures read { IfOk result (λ found. found.items ≡ spec.image_groups file.now) }
+    ensures differ { IsDistinct bytes_eq (map (λ g. g.0) file.now) }
 {
     let mut found = Vec::new(alloc);
     for at in 0..file.groups() {

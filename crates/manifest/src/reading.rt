@@ -1,4 +1,6 @@
-ghost use Rattle.std.specs.Prelude.{◌≡◌, None, IfOk};
+ghost use Rattle.std.specs.Prelude.{◌≡◌, None, IfOk, map};
+ghost use Rattle.std.specs.List.{IsDistinct};
+ghost use Rattle.std.specs.Str.{bytes_eq};
 ghost use Rattle.manifest.specs.Contents.{content};
 ghost use Rattle.manifest.specs.Images.{image_groups};
 ghost use Rattle.manifest.specs.Reads.{Checks, Reads, manifest_content};
@@ -72,6 +74,7 @@ fn first_refusal(
 fn read_content(alloc: Global, file: &KeyFile, images: &[Text]) -> Result<Manifest, NoMemory>
     requires groups { images.now ≡ image_groups file.now }
     requires pass { spec.first_refusal file.now ≡ None }
+    requires differ { IsDistinct bytes_eq (map (λ g. g.0) file.now) }
     ensures { IfOk result (λ manifest. manifest_content manifest ≡ content file.now) }
 {
     let bundle = read_bundle_text(alloc, file)?;

@@ -7,7 +7,6 @@ mod Facts
 mod Formed
 mod Groups
 mod Lengths
-pub mod Named
 mod Names
 mod Putting
 mod Times

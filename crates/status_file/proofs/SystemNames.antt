@@ -1,16 +1,15 @@
 -- The names of a system's slots are names of slots, and differ.
 use Rattle.std.proofs.Common.{◌≡◌, ◌<◌, ℕ, zero, suc, ◌+◌, ◌^◌, Bool, true, false, cond, not, ◌&&◌, ◌||◌, eqb, nat_le, nat_lt, List, [], ◌∷◌, ◌++◌, length, take, drop, get_or, codes, decimal, Some, None, IsTrue, refl, sym, ◌∙◌, ap, arith, append_assoc, ltb-true, ltb-false, ◌≤◌}
 use Rattle.std.specs.Prelude.{is_none, is_some, bytes_eq}
-use Rattle.std.specs.List.{AllByRecursion, IsDistinct, list_all, list_any, position_or_len}
+use Rattle.std.specs.List.{list_all, position_or_len}
 use Rattle.std.proofs.lemmas.Bool.{and_parts, true≢false}
 use Rattle.std.proofs.lemmas.List.{length-map}
 use Rattle.std.proofs.lemmas.Bool.Decides.{nat_tests}
 use Rattle.std.proofs.lemmas.Fmt.{decimal_digit, first_decimal}
-use Rattle.std.proofs.lemmas.Map.Keys.{IsDistinct-head, IsDistinct-tail}
 use Rattle.std.proofs.lemmas.Slice.Eq.{bytes_eq-Decides}
-use Rattle.keyfile.specs.Groups.{Text, all_distinct}
 use Rattle.conf_forms.specs.Classes.{is_class, is_class_byte}
 use Rattle.conf_forms.specs.Lists.{keep_if}
+use Rattle.conf_forms.proofs.Distinct.{all_distinct_by}
 use Rattle.conf_forms.specs.SlotNames.{class_in_name, index_in, index_in_name, is_slot_name}
 use Rattle.slot_status.specs.Texts.{are_slot_names}
 use Rattle.slot_status.proofs.Digits.{number_of-decimal}
@@ -20,16 +19,6 @@ use Rattle.system_conf.specs.Sound.{AreSlotsSound}
 use Rattle.system_conf.specs.declared.conf_refusal.ConfRefusal.TheVariants as refusal
 use Rattle.system_conf.specs.declared.slot.Slot.{Slot}
 use Rattle.status_file.specs.Status.{names_in}
-
--- ---- they differ
-
-none_after : (x : Text) (xs : List Text) → AllByRecursion (λ y. bytes_eq x y ≡ false) xs → list_any (bytes_eq x) xs ≡ false
-none_after x [] h = refl
-none_after x (y ∷ ys) h = λ i. h.0 i || none_after x ys h.1 i
-
-differ : (xs : List Text) → IsDistinct bytes_eq xs → all_distinct xs ≡ true
-differ [] h = refl
-differ (x ∷ xs) h = λ i. not (none_after x xs (IsDistinct-head bytes_eq x xs h) i) && differ xs (IsDistinct-tail bytes_eq x xs h) i
 
 -- ---- each is one
 
@@ -99,7 +88,7 @@ slot_names (s ∷ slots) formed =
     λ i. slot_name s named.0 i && slot_names slots both.1 i
 
 pub names_fit : (slots : List Slot) → AreSlotsSound slots → IsTrue (are_slot_names (names_in slots))
-names_fit slots sound = λ i. slot_names slots sound.formed i && differ (names_in slots) sound.names_differ i
+names_fit slots sound = λ i. slot_names slots sound.formed i && all_distinct_by (names_in slots) sound.names_differ i
 
 -- ---- they are few
 
