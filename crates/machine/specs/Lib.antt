@@ -9,3 +9,4 @@ pub mod SameChild
 pub mod Runs
 pub mod Stops
 pub mod Endings
+pub mod Faults

@@ -5,6 +5,7 @@
 mod calls;
 mod copies;
 mod ended;
+mod fault;
 mod law;
 mod reads;
 mod stops;
@@ -14,6 +15,7 @@ mod world;
 pub use calls::{CallStop, Machine, ReadStop, RunStop};
 pub use copies::{TryClone, copy_bytes, copy_items};
 pub use ended::ended_text;
+pub use fault::fault_cause;
 pub use law::held_joins;
 pub use reads::fill;
 pub use stops::{Fault, Stop};

@@ -3,7 +3,7 @@ use Rattle.std.specs.Prelude.{ℕ, Bool, true, false, List, [], ◌++◌, codes,
 use Rattle.std.specs.Option.{option_map_or}
 use Rattle.hex.specs.Hex.{encode_lower}
 use Rattle.machine.specs.declared.stops.Fault.{Fault}
-use Rattle.machine.specs.declared.stops.Fault.TheVariants as fault
+use Rattle.machine.specs.Faults.{fault_cause}
 use Rattle.keyfile.specs.Causes.{key_cause}
 use Rattle.updater_text.specs.declared.form.Form.{Form}
 use Rattle.manifest.specs.Contents.{Content}
@@ -58,15 +58,6 @@ unread_warning unread = text_if unread (codes "warning: status file unreadable\n
 abbrev pub written_report : List ℕ → SlotWritten → Report
 written_report slot written = record { outcome = end.Done; out = written_line slot written.size written.digest.0; err = unread_warning written.book_unread }
 
-abbrev pub fault_word : Fault → List ℕ
-fault_word fault.Read = codes "read"
-fault_word fault.Write = codes "write"
-fault_word fault.Sync = codes "sync"
-fault_word fault.Size = codes "size"
-fault_word fault.Replace = codes "replace"
-fault_word fault.Run = codes "run"
-fault_word fault.Clock = codes "clock"
-
 -- why a configuration is refused
 abbrev pub bad_conf_cause : BadConf → List ℕ
 bad_conf_cause (bad.Key fault) = key_cause fault
@@ -93,11 +84,7 @@ help_report = record { outcome = end.Help; out = codes "usage: rauc [-c FILE] [-
 abbrev pub usage_report : Report
 usage_report = error_report end.Usage (codes "bad usage, see rauc --help")
 
--- a machine call that failed
-abbrev pub fault_cause : Fault → List ℕ
-fault_cause kind = codes "outside fault: " ++ fault_word kind
-
--- its report, after lines on standard output and warnings on standard error
+-- the report of a machine call that failed, after lines on standard output and warnings on standard error
 abbrev pub fault_report : List ℕ → List ℕ → Fault → Report
 fault_report notes warnings kind = record { outcome = end.Outside kind; out = notes; err = warnings ++ error_line (fault_cause kind) }
 

@@ -5,10 +5,9 @@ ghost use Rattle.rauc_cli.specs.Ends.{InfoTexts, SaysInfo};
 ghost use Rattle.rauc_cli.specs.Lines.{closing_warnings, error_line, fault_report, info_refusal_report, told_report, warning_line};
 
 use crate::Outcome;
-use crate::lines::fault_cause;
 use crate::outcome::Report;
 use child_steps::{Closing, closing_cause};
-use machine::{Fault, Stop};
+use machine::{Fault, Stop, fault_cause};
 use manifest::Manifest;
 use mark_report::{Form, InfoEnd, InfoRefusal, info_cause, info_text};
 use std::alloc::Global;

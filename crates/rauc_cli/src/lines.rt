@@ -1,10 +1,10 @@
 ghost use Rattle.std.specs.Prelude.{◌≡◌, ◌++◌, IfOk, codes, string_bytes};
-ghost use Rattle.rauc_cli.specs.Lines.{bad_conf_cause, error_report, fault_cause, fault_word, help_report, no_system_report, outside, slot_refusal_report, system_cause, system_outcome, unread_warning, usage_report, written_head, written_line, written_report};
+ghost use Rattle.rauc_cli.specs.Lines.{bad_conf_cause, error_report, help_report, no_system_report, outside, slot_refusal_report, system_cause, system_outcome, unread_warning, usage_report, written_head, written_line, written_report};
 
 use crate::outcome::Report;
 use crate::{BadConf, NoSystem, Outcome};
 use keyfile::key_cause;
-use machine::{Fault, copy_bytes};
+use machine::{Fault, copy_bytes, fault_cause};
 use slot_writer::{SlotRefusal, SlotWritten, slot_cause};
 use std::alloc::{AllocError, Global};
 use system_conf::{System, conf_cause};
@@ -73,21 +73,6 @@ pub fn written_report(alloc: Global, slot: &str, written: &SlotWritten) -> Resul
     })
 }
 
-// The word of a fault.
-fn fault_word(kind: Fault) -> &'static str
-    ensures { result.now ≡ fault_word kind }
-{
-    match kind {
-        Fault::Read => "read",
-        Fault::Write => "write",
-        Fault::Sync => "sync",
-        Fault::Size => "size",
-        Fault::Replace => "replace",
-        Fault::Run => "run",
-        Fault::Clock => "clock",
-    }
-}
-
 // Why a configuration is refused.
 fn bad_conf_cause(alloc: Global, refusal: &BadConf) -> Result<Text, NoMemory>
     ensures { IfOk result (λ t. t ≡ bad_conf_cause refusal.now) }
@@ -143,16 +128,7 @@ pub fn usage_report(alloc: Global) -> Result<Report, NoMemory>
     error_report(alloc, Outcome::Usage, "bad usage, see rauc --help")
 }
 
-/// A machine call of this kind failed.
-pub fn fault_cause(alloc: Global, kind: Fault) -> Result<Text, NoMemory>
-    ensures { IfOk result (λ t. t ≡ fault_cause kind) }
-{
-    let word = fault_word(kind);
-    let cause = format!(in alloc; "outside fault: {word}")?;
-    Ok(Text::from_string(cause))
-}
-
-/// The report of that alone.
+/// The report of a machine call of this kind that failed.
 pub fn outside(alloc: Global, kind: Fault) -> Result<Report, NoMemory>
     ensures { IfOk result (λ r. r ≡ outside kind) }
 {
