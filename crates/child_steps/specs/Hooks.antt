@@ -1,5 +1,5 @@
 -- The hooks of a bundle and the handlers of a system: each as the child that is run.
-use Rattle.std.specs.Prelude.{ℕ, ◌+◌, List, [], ◌∷◌, ◌++◌, true, codes, decimal, length, map, Option, Some, None, option_and_then, option_map, slice_get, unwrap_or}
+use Rattle.std.specs.Prelude.{ℕ, ◌+◌, List, [], ◌∷◌, ◌++◌, true, codes, decimal, length, map, Option, None, option_and_then, slice_get, unwrap_or}
 use Rattle.std.specs.List.{enumerate_from, flat_map, join_by, range_with_len}
 use Rattle.std.specs.Option.{option_map_or, option_to_list}
 use Rattle.hex.specs.Hex.{encode_lower}
@@ -14,7 +14,7 @@ use Rattle.slot_graph.specs.declared.job.Job.{Job}
 use Rattle.slot_graph.specs.declared.state.Booted.{Booted}
 use Rattle.slot_graph.specs.declared.state.Booted.TheVariants as booted
 use Rattle.system_conf.specs.Configuration.{Configuration}
-use Rattle.system_conf.specs.Slots.{name_at, word_of}
+use Rattle.system_conf.specs.Slots.{parent_name, word_of}
 use Rattle.system_conf.specs.declared.slot.Slot.{Slot}
 use Rattle.child_steps.specs.Children.{helper_spares, mount_point}
 use Rattle.child_steps.specs.declared.handlers.HandlerKind.{HandlerKind}
@@ -43,10 +43,6 @@ numbers places = join_by (λ at. decimal (at + 1)) (codes " ") places
 -- a file of the bundle that is mounted
 abbrev pub bundled : Configuration → Text → Text
 bundled c name = mount_point c ++ (codes "/" ++ name)
-
--- the name of the slot that a slot belongs to
-abbrev pub parent_name : List Slot → Slot → Option Text
-parent_name slots s = option_map (name_at slots) s.parent
 
 -- ---- hooks
 

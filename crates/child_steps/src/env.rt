@@ -1,5 +1,5 @@
 ghost use Rattle.std.specs.Prelude.{◌≡◌, ◌++◌, IfOk, OnOk};
-ghost use Rattle.system_conf.specs.Slots.{word_of};
+ghost use Rattle.system_conf.specs.Slots.{parent_name, word_of};
 ghost use Rattle.child_steps.specs.Hooks as spec;
 
 use machine::EnvVar;
@@ -55,7 +55,7 @@ pub fn kind_word(alloc: Global, slot: &Slot) -> Result<Text, NoMemory>
 
 /// The name of the slot that a slot belongs to, where it has one.
 pub fn parent_name(alloc: Global, slots: &[Slot], slot: &Slot) -> Result<Option<Text>, NoMemory>
-    ensures { IfOk result (λ name. name ≡ spec.parent_name slots.now slot.now) }
+    ensures { IfOk result (λ name. name ≡ parent_name slots.now slot.now) }
 {
     match slot.parent {
         Some(at) => Ok(Some(Text::new(alloc, name_at(slots, at))?)),

@@ -15,15 +15,18 @@ fn class_cause(alloc: Global, matter: &str, class: &Text) -> Result<Text, NoMemo
     Ok(Text::from_string(format!(in alloc; "{matter}{class}")?))
 }
 
-// What is the matter with the slot at this place.
-fn matter_at(alloc: Global, slots: &[Slot], at: usize, matter: &str) -> Result<Text, NoMemory>
+/// What is the matter with the slot at a place, in one line without its end. The only error is out of
+/// memory.
+pub fn matter_at(alloc: Global, slots: &[Slot], at: usize, matter: &str) -> Result<Text, NoMemory>
     ensures { IfOk result (λ t. t ≡ codes "slot " ++ (name_at slots.now at ++ matter.now)) }
 {
     let name = name_at(slots, at);
     Ok(Text::from_string(format!(in alloc; "slot {name}{matter}")?))
 }
 
-fn archive_cause(alloc: Global, name: &Text) -> Result<Text, NoMemory>
+/// That the file of an image is an archive, in one line without its end. The only error is out of
+/// memory.
+pub fn archive_cause(alloc: Global, name: &Text) -> Result<Text, NoMemory>
     ensures { IfOk result (λ t. t ≡ codes "image " ++ (name.now ++ codes " is an archive")) }
 {
     let name = name.as_str();

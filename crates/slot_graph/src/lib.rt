@@ -15,7 +15,7 @@ mod told;
 
 pub use archive::is_archive;
 pub use assigning::{AssignRefusal, assign};
-pub use cause::assign_cause;
+pub use cause::{archive_cause, assign_cause, matter_at};
 pub use job::Job;
 pub use mounted::{Mount, mounts};
 pub use roots::root_of;

@@ -1,5 +1,5 @@
 -- Why an image is not written to a slot, by what the slot is, what runs and what is mounted.
-use Rattle.std.specs.Prelude.{◌≡◌, ℕ, Bool, true, false, IsTrue, List, if◌then◌else◌, Option, Some, None, Result, Ok, Err, slice_get, option_and_then}
+use Rattle.std.specs.Prelude.{◌≡◌, ℕ, Bool, IsTrue, List, if◌then◌else◌, Option, Some, None, Result, Ok, Err, slice_get, option_and_then}
 use Rattle.machine.specs.declared.stops.Stop.{Stop}
 use Rattle.machine.specs.declared.world.World.{World}
 use Rattle.machine.specs.Past.{Past, Fails}
@@ -8,13 +8,12 @@ use Rattle.machine.specs.Stops.{Settles, stop_fault}
 use Rattle.conf_forms.specs.Lists.{or_else}
 use Rattle.raw_writer.specs.declared.check.PutRefusal.TheVariants.{ImageDigest}
 use Rattle.system_conf.specs.declared.slot.Slot.{Slot}
-use Rattle.system_conf.specs.declared.slot.SlotKind.{SlotKind}
-use Rattle.system_conf.specs.declared.slot.SlotKind.TheVariants.{Unwritten}
 use Rattle.slot_graph.specs.declared.state.Booted.{Booted}
 use Rattle.slot_graph.specs.declared.state.Booted.TheVariants as booted
 use Rattle.slot_graph.specs.declared.mounted.Mount.{Mount}
 use Rattle.slot_graph.specs.Archives.{is_archive}
 use Rattle.slot_graph.specs.Booted.{state_of}
+use Rattle.slot_graph.specs.Jobs.{is_unwritten}
 use Rattle.running_system.specs.Running.{is_in_use, is_mounted, what_is_mounted, what_runs}
 use Rattle.slot_writer.specs.declared.refusal.SlotRefusal.{SlotRefusal}
 use Rattle.machine.specs.declared.stops.Stop.TheVariants as stop
@@ -25,11 +24,6 @@ use Rattle.system_conf.specs.Slots.{name_at}
 abbrev pub use_refusal : List Slot → Booted → ℕ → Option SlotRefusal
 use_refusal slots booted.Unknown at = Some BootedUnknown
 use_refusal slots booted at = if is_in_use (state_of slots booted at) then Some (Busy at) else None
-
--- a type that is known and not written to
-abbrev pub is_unwritten : SlotKind → Bool
-is_unwritten (Unwritten word) = true
-is_unwritten kind = false
 
 -- whatever stands on the machine: the slot is read-only, the image an archive, or the slot's type is not written to
 abbrev pub kind_refusal : ℕ → Slot → List ℕ → Option SlotRefusal

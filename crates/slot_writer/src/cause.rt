@@ -1,35 +1,18 @@
 ghost use Rattle.std.specs.Prelude.{◌≡◌, ◌++◌, IfOk, codes};
-ghost use Rattle.system_conf.specs.Slots.{name_at};
 ghost use Rattle.slot_writer.specs.Causes.{slot_cause};
 
 use crate::SlotRefusal;
 use raw_writer::put_cause;
+use slot_graph::{archive_cause, matter_at};
 use std::alloc::Global;
-use system_conf::{Slot, System, name_at};
+use system_conf::System;
 use updater_text::{NoMemory, Text};
-
-// What is the matter with the slot at this place.
-fn matter_at(alloc: Global, slots: &[Slot], at: usize, matter: &str) -> Result<Text, NoMemory>
-    ensures { IfOk result (λ t. t ≡ codes "slot " ++ (name_at slots.now at ++ matter.now)) }
-{
-    let name = name_at(slots, at);
-    let cause = format!(in alloc; "slot {name}{matter}")?;
-    Ok(Text::from_string(cause))
-}
 
 fn no_slot_cause(alloc: Global, name: &Text) -> Result<Text, NoMemory>
     ensures { IfOk result (λ t. t ≡ codes "no such slot: " ++ name.now) }
 {
     let name = name.as_str();
     let cause = format!(in alloc; "no such slot: {name}")?;
-    Ok(Text::from_string(cause))
-}
-
-fn archive_cause(alloc: Global, image: &Text) -> Result<Text, NoMemory>
-    ensures { IfOk result (λ t. t ≡ codes "image " ++ (image.now ++ codes " is an archive")) }
-{
-    let image = image.as_str();
-    let cause = format!(in alloc; "image {image} is an archive")?;
     Ok(Text::from_string(cause))
 }
 

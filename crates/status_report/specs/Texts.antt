@@ -1,17 +1,17 @@
 -- What there is to tell of the slots, as text.
-use Rattle.std.specs.Prelude.{ℕ, ◌+◌, Bool, [], ◌++◌, codes, decimal, length, Option, option_map, unwrap_or, if◌then◌else◌}
+use Rattle.std.specs.Prelude.{ℕ, ◌+◌, Bool, [], ◌++◌, codes, decimal, length, option_map, unwrap_or}
 use Rattle.std.specs.List.{enumerate_from, flat_map}
 use Rattle.std.specs.Option.{option_map_or}
 use Rattle.hex.specs.Hex.{encode_lower}
 use Rattle.keyfile.specs.Groups.{Text}
 use Rattle.report_lines.specs.Lines.{line, line_if_any, numbered, setting, text_if}
 use Rattle.slot_status.specs.Records.{RecordContent, record_at}
-use Rattle.system_conf.specs.Slots.{name_at, word_of}
+use Rattle.system_conf.specs.Slots.{name_at, parent_name, word_of}
 use Rattle.system_conf.specs.declared.slot.Slot.{Slot}
 use Rattle.system_conf.specs.Configuration.{Configuration}
 use Rattle.updater_text.specs.declared.form.Form.{Form}
 use Rattle.updater_text.specs.declared.form.Form.TheVariants as form
-use Rattle.status_report.specs.Words.{boot_status_at, booted_word, numbers, parent_name, shown_at, state_at, time_word}
+use Rattle.status_report.specs.Words.{boot_status_at, booted_word, numbers, shown_at, state_at, time_word}
 use Rattle.status_report.specs.declared.view.StatusView.{StatusView}
 
 -- ---- for a reader

@@ -1,5 +1,5 @@
 -- The words for what is told of a slot.
-use Rattle.std.specs.Prelude.{ℕ, ◌==◌, Bool, List, [], ◌++◌, codes, decimal, Option, Some, None, option_map, option_and_then, slice_get, slice_index_or, if◌then◌else◌}
+use Rattle.std.specs.Prelude.{ℕ, ◌==◌, Bool, List, [], ◌++◌, codes, decimal, Option, None, option_map, slice_get, slice_index_or, if◌then◌else◌}
 use Rattle.std.specs.List.{join_by, range_with_len}
 use Rattle.std.specs.Option.{option_map_or}
 use Rattle.keyfile.specs.Groups.{Text}
@@ -7,7 +7,6 @@ use Rattle.slot_graph.specs.declared.state.Booted.{Booted}
 use Rattle.slot_graph.specs.declared.state.Booted.TheVariants as booted
 use Rattle.slot_graph.specs.declared.state.SlotState.{SlotState}
 use Rattle.slot_graph.specs.declared.state.SlotState.TheVariants as state
-use Rattle.system_conf.specs.Slots.{name_at}
 use Rattle.system_conf.specs.declared.slot.Slot.{Slot}
 use Rattle.status_report.specs.declared.view.StatusView.{StatusView}
 
@@ -28,10 +27,6 @@ good_word good = if good then codes "good" else codes "bad"
 -- the same at a place, where it is told
 abbrev pub boot_status_at : StatusView → ℕ → Option Text
 boot_status_at v at = option_map good_word (slice_index_or v.good at None)
-
--- the name of the slot that a slot belongs to
-abbrev pub parent_name : List Slot → Slot → Option Text
-parent_name slots s = option_map (name_at slots) s.parent
 
 -- what is booted, and which slot is primary, where a name tells a slot
 abbrev pub booted_word : (ℕ → Text) → Booted → Text

@@ -1,5 +1,5 @@
 -- The slots of a configuration.
-use Rattle.std.specs.Prelude.{ℕ, Bool, false, true, List, [], codes, length, map, zero, suc, slice_get, position, Option, is_none, option_and_then, unwrap_or, if◌then◌else◌}
+use Rattle.std.specs.Prelude.{ℕ, Bool, false, true, List, [], codes, length, map, zero, suc, slice_get, position, Option, is_none, option_and_then, option_map, unwrap_or, if◌then◌else◌}
 use Rattle.std.specs.Option.{option_map_or}
 use Rattle.std.specs.Str.{bytes_eq}
 use Rattle.keyfile.specs.Groups.{Text, Group, get_in}
@@ -64,6 +64,10 @@ slots_of groups = map (slot_of groups) (slot_groups groups)
 -- the name of the slot at a place; none has the empty name
 abbrev pub name_at : List Slot → ℕ → Text
 name_at slots at = option_map_or (λ s. s.name) (slice_get slots at) []
+
+-- the name of the slot that a slot belongs to
+abbrev pub parent_name : List Slot → Slot → Option Text
+parent_name slots s = option_map (name_at slots) s.parent
 
 -- the parent of the slot at a place
 abbrev pub parent_at : List Slot → ℕ → Option ℕ
