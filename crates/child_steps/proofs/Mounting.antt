@@ -5,15 +5,13 @@ use Rattle.std.specs.Option.{option_to_list}
 use Rattle.std.proofs.lemmas.Bool.{true≢false}
 use Rattle.updater_text.specs.Paths.{is_within}
 use Rattle.keyfile.specs.Groups.{Text}
-use Rattle.machine.proofs.Moments.{always_weaker}
-use Rattle.machine.specs.Spares.{has_file, is_boot, is_kernels}
+use Rattle.machine.specs.Spares.{is_boot}
 use Rattle.machine.specs.declared.stops.Stop.{Stop}
 use Rattle.machine.specs.declared.stops.Stop.TheVariants as stop
 use Rattle.machine.specs.declared.world.Child.{Child}
 use Rattle.machine.specs.declared.world.Ended.{Ended}
-use Rattle.machine.specs.declared.world.World.{World}
-use Rattle.machine.specs.Past.{Past, world_now}
-use Rattle.machine.specs.Runs.{LeftAlone, OnlyRuns, RanAll, SparesThese}
+use Rattle.machine.specs.Past.{Past}
+use Rattle.machine.specs.Runs.{RanAll, SparesThese}
 use Rattle.system_conf.specs.Configuration.{Configuration}
 use Rattle.child_steps.specs.Children.{check_child, helper_spares, mount_child, mount_point}
 use Rattle.child_steps.specs.Mounting.{MountEnds, OneRun, StepEnds, succeeded}
@@ -40,24 +38,6 @@ check_spares c bundle = record {
   files = λ path h. any_more (λ p. is_within p path) (option_to_list c.status_file) (mount_point c ∷ []) h;
   boot = λ h. h;
 }
-
--- who leaves more files alone leaves the others alone
-pub fewer_files : (t : Bool) (c : Configuration) (files : List Text) (children : List Child) (a b : Past) → OnlyRuns t (helper_spares c files) children a b → OnlyRuns t (helper_spares c []) children a b
-fewer_files t c files children a b only = record {
-  all = λ told. always_weaker a b (LeftAlone (helper_spares c files) children (world_now a)) (LeftAlone (helper_spares c []) children (world_now a)) fewer (only.all told);
-}
-  where
-    fewer : (u : World) → LeftAlone (helper_spares c files) children (world_now a) u → LeftAlone (helper_spares c []) children (world_now a) u
-    fewer u left = record {
-      runs = left.runs;
-      writes = left.writes;
-      fetched = left.fetched;
-      lengths = left.lengths;
-      disks = left.disks;
-      pending = left.pending;
-      files = λ path is. left.files path (or_onto (is_kernels path) (has_file (helper_spares c []) path) (has_file (helper_spares c files) path) (any_more (λ p. is_within p path) (option_to_list c.status_file) files) is);
-      vars = left.vars;
-    }
 
 -- a child that is no boot program spares what it says
 pub own_spares : (child : Child) → is_boot child.class ≡ false → SparesThese child.spares child

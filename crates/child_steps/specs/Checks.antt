@@ -21,6 +21,7 @@ abbrev pub is_rejection : Ended → Bool
 is_rejection (Code code) = code == 10
 is_rejection Signal = false
 
+-- the byte that ends a line
 abbrev pub is_line_feed : ℕ → Bool
 is_line_feed byte = byte == 10
 
@@ -28,7 +29,7 @@ is_line_feed byte = byte == 10
 abbrev pub first_line : List ℕ → List ℕ
 first_line output = before_first is_line_feed output
 
--- the text of bytes, which is empty where they are none
+-- these bytes as a text, which is empty where they are no UTF-8
 abbrev pub text_of : List ℕ → Text
 text_of bytes = if is_utf8 bytes then bytes else []
 
