@@ -1,0 +1,7 @@
+pub mod ActsDone
+pub mod BookNoted
+pub mod DoneSteps
+pub mod EndsNoted
+pub mod NamesMarked
+pub mod SlotsSettled
+pub mod StepsSteady
