@@ -1,0 +1,33 @@
+use Rattle.std.proofs.Common.{Err, IsTrue, [], ap, subst}
+use Rattle.keyfile.specs.Groups.{Text}
+use Rattle.machine.specs.Runs.{OnlyRuns}
+use Rattle.child_steps.specs.Children.{helper_spares, mounting}
+use Rattle.child_steps.specs.Mounting.{MountEnds}
+use Rattle.system_conf.specs.Reads.{system_configuration}
+use Rattle.install_core.proofs.Going.{installs_mounted, installs_unmounted}
+use Rattle.install_core.proofs.AllDone.{done_at_success}
+use Rattle.install_core.proofs.LeftUntouched.{refused_before}
+use Rattle.install_core.proofs.installing.install.Goals as goal
+
+pub returns-in-Ok-clause-course : goal.returns-in-Ok-clause-course
+returns-in-Ok-clause-course g c =
+    installs_mounted _ (system_configuration c.args.system.now) c.args.request.now _ _ _ _ _ _ c.in-Ok.mounted c.install_mounted-worked.result.0.result c.install_mounted-worked.result.1 c.install_mounted-worked.result.0.book_unread c.end_of.result
+    c.note.ensures (rw c.as_str.ensures at c.in-Ok.ensures.ends) (rw c.as_str.ensures at c.in-Ok.ensures.kept) c.in-Ok.ensures.fails c.install_mounted-worked.ensures.worked c.end_of.ensures.is c.end_of.ensures.closing c.end_of.ensures.unread
+
+pub returns-in-Err-clause-course : goal.returns-in-Err-clause-course
+returns-in-Err-clause-course g c =
+    installs_unmounted _ (system_configuration c.args.system.now) c.args.request.now _ (g.P.Report.stands c.note.new.self) (g.P.Report.stands c.note.new.self) _ _ c.in-Err.stop (Err c.mount_stop.result) c.end_of-in-Err.result
+    c.note.ensures (subst (λ (b : Text). IsTrue g.M.Machine.tells → MountEnds (system_configuration c.args.system.now) b (g.M.Machine.past c.args.m.now) (g.M.Machine.past c.mount_bundle.new.m) (Err c.in-Err.stop)) c.as_str.ensures c.in-Err.ensures.ends)
+    (subst (λ (b : Text). OnlyRuns g.M.Machine.tells (helper_spares (system_configuration c.args.system.now) []) (mounting (system_configuration c.args.system.now) b) (g.M.Machine.past c.args.m.now) (g.M.Machine.past c.mount_bundle.new.m)) c.as_str.ensures c.in-Err.ensures.kept) c.in-Err.ensures.fails (ap Err c.mount_stop.ensures) c.end_of-in-Err.ensures.is c.end_of-in-Err.ensures.closing c.end_of-in-Err.ensures.unread
+
+pub returns-in-Ok-clause-untouched : goal.returns-in-Ok-clause-untouched
+returns-in-Ok-clause-untouched g c = refused_before _ _ c.args.request.now _ _ _ _ c.end_of.result (returns-in-Ok-clause-course g c)
+
+pub returns-in-Err-clause-untouched : goal.returns-in-Err-clause-untouched
+returns-in-Err-clause-untouched g c = refused_before _ _ c.args.request.now _ _ _ _ c.end_of-in-Err.result (returns-in-Err-clause-course g c)
+
+pub returns-in-Ok-clause-done : goal.returns-in-Ok-clause-done
+returns-in-Ok-clause-done g c = done_at_success _ _ c.args.request.now _ _ _ _ c.end_of.result (returns-in-Ok-clause-course g c)
+
+pub returns-in-Err-clause-done : goal.returns-in-Err-clause-done
+returns-in-Err-clause-done g c = done_at_success _ _ c.args.request.now _ _ _ _ c.end_of-in-Err.result (returns-in-Err-clause-course g c)

@@ -1,0 +1,4 @@
+pub mod Preparing
+pub mod Course
+pub mod Untouched
+pub mod Done
