@@ -1,5 +1,5 @@
 -- Before its first step an install leaves the slots, the status file and the boot variables alone.
-use Rattle.std.proofs.Common.{◌≡◌, inl, inr, Bool, true, false, List, [], ◌∷◌, Result, Ok, Err, IsTrue, refl, sym, ◌∙◌, ap, subst}
+use Rattle.std.proofs.Common.{◌≡◌, ◌⊎◌, inl, inr, Bool, true, false, List, [], ◌∷◌, Result, Ok, Err, IsTrue, refl, sym, ◌∙◌, ap, subst}
 use Rattle.std.specs.Prelude.{⊤}
 use Rattle.std.proofs.lemmas.Bool.{true≢false}
 use Rattle.machine.specs.declared.stops.Stop.{Stop}
@@ -15,7 +15,8 @@ use Rattle.child_steps.specs.Children.{helper_spares, mounting, umount_child}
 use Rattle.child_steps.specs.declared.close.Closing.{Closing}
 use Rattle.machine.specs.declared.stops.Fault.{Fault}
 use Rattle.system_conf.specs.declared.slot.Slot.{Slot}
-use Rattle.install_facts.specs.Gathering.{checks_in}
+use Rattle.install_facts.specs.Answers.{TellsIf}
+use Rattle.install_facts.specs.Gathering.{checks_in, facts_since}
 use Rattle.install_plan.specs.declared.step.Act.{Act}
 use Rattle.install_steps.specs.Progress.{ComesTo}
 use Rattle.install_steps.specs.declared.running.Installed.{Installed}
@@ -33,7 +34,7 @@ use Rattle.machine.specs.declared.world.Ended.{Ended}
 use Rattle.updater_text.specs.Sinks.{Shown}
 use Rattle.install_facts.specs.declared.report.Note.{Note}
 use Rattle.install_core.specs.Course.{Answer, Course, Follows, Installs, IsEnd, installed_if}
-use Rattle.install_core.specs.Untouched.{IsSpared, RefusedBefore, Untouched, comes_before}
+use Rattle.install_core.specs.Untouched.{HasFacts, IsSpared, LeavesUntouched, Untouched, comes_before}
 use Rattle.install_core.specs.declared.ending.InstallEnd.{InstallEnd}
 
 spared_trans : (spares : Spares) (u v w : World) → IsSpared spares u v → IsSpared spares v w → IsSpared spares u w
@@ -131,8 +132,30 @@ module _ (t : Bool) (c : Configuration) (r : Request) (answer : Answer) (refusal
       let worked = none_followed old works.gathered h.worked_on.worked works.facts works.after works.follows first in
       untouched_join t c old h.worked_on.worked new worked (ran_untouched t c (umount_child c ∷ []) h.worked_on.worked new h.worked_on.spares)
 
--- a refusal that comes before the first step
-pub refused_before : (t : Bool) (c : Configuration) (r : Request) (old new : Past) (stood stands : Shown → List Note → Type 0) (end : InstallEnd) → Installs t c r old new stood stands end → RefusedBefore t c old new end
-refused_before t c r old new stood stands end went = record {
-  untouched = λ refusal e before. by_course t c r went.answer refusal (answered c.slots went.answer end refusal went.is e) before old new end.closing end.book_unread went.notes went.course;
+-- ---- and whatever the answer
+
+module _ (t : Bool) (c : Configuration) (r : Request) (old : Past) where
+  unless_gathered : (mounted g z : Past) (facts : Result Facts (Stop InstallRefusal)) (answer : Answer) (notes : List Note) → (IsTrue t → TellsIf facts_content (facts_since c r mounted g) facts) → Follows t c g z facts answer notes → Untouched t c old g → Untouched t c old z ⊎ HasFacts t c r old
+  unless_gathered mounted g z (Err stop) answer notes told h first = inl (untouched_same t c old g z h.1 first)
+  unless_gathered mounted g z (Ok facts) answer notes told (inr h) first = inl (untouched_same t c old g z h.nothing first)
+  unless_gathered mounted g z (Ok facts) answer notes told (inl h) first = inr (record { mounted = mounted; gathered = g; facts = facts_content facts; told = told })
+
+  and_unmounted : (z new : Past) → Untouched t c z new → Untouched t c old z ⊎ HasFacts t c r old → Untouched t c old new ⊎ HasFacts t c r old
+  and_unmounted z new last (inl h) = inl (untouched_join t c old z new h last)
+  and_unmounted z new last (inr h) = inr h
+
+  unless_course : (new : Past) (answer : Answer) (closed : Closing) (unread : Bool) (notes : List Note) → Course t c r old new answer closed unread notes → Untouched t c old new ⊎ HasFacts t c r old
+  unless_course new answer closed unread notes (inl h) = inl (ran_untouched t c (mounting c r.bundle) old new h.kept)
+  unless_course new answer closed unread notes (inr h) =
+      let works = h.worked_on.works in
+      let mounted = ran_untouched t c (mounting c r.bundle) old h.mounted h.kept in
+      let gathered = ran_untouched t c (checks_in c (world_now h.mounted)) h.mounted works.gathered works.gathers.kept in
+      and_unmounted h.worked_on.worked new (ran_untouched t c (umount_child c ∷ []) h.worked_on.worked new h.worked_on.spares)
+      (unless_gathered h.mounted works.gathered h.worked_on.worked works.facts answer works.after works.gathers.answers works.follows (untouched_join t c old h.mounted works.gathered mounted gathered))
+
+-- what an install leaves alone before its first step
+pub leaves_untouched : (t : Bool) (c : Configuration) (r : Request) (old new : Past) (stood stands : Shown → List Note → Type 0) (end : InstallEnd) → Installs t c r old new stood stands end → LeavesUntouched t c r old new end
+leaves_untouched t c r old new stood stands end went = record {
+  refused = λ refusal e before. by_course t c r went.answer refusal (answered c.slots went.answer end refusal went.is e) before old new end.closing end.book_unread went.notes went.course;
+  unless = unless_course t c r old new went.answer end.closing end.book_unread went.notes went.course;
 }

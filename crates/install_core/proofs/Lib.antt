@@ -22,3 +22,4 @@ pub mod FactsFit
 pub mod Going
 pub mod LeftUntouched
 pub mod AllDone
+pub mod FaultsTold

@@ -2,3 +2,4 @@ pub mod Preparing
 pub mod Course
 pub mod Untouched
 pub mod Done
+pub mod Faults

@@ -1,5 +1,5 @@
 -- What an install leaves alone before its first step.
-use Rattle.std.specs.Prelude.{◌≡◌, ◌||◌, ℕ, Bool, true, false, IsTrue, List, [], Err}
+use Rattle.std.specs.Prelude.{◌≡◌, ◌⊎◌, ◌||◌, ℕ, Bool, true, false, IsTrue, List, [], Some, Ok, Err}
 use Rattle.machine.specs.declared.stops.Stop.TheVariants.{Refused}
 use Rattle.machine.specs.declared.world.Spares.{Spares}
 use Rattle.machine.specs.declared.world.World.{World}
@@ -9,6 +9,9 @@ use Rattle.machine.specs.World.{disk, disk_length, file}
 use Rattle.raw_writer.specs.declared.check.PutRefusal.TheVariants.{ImageDigest}
 use Rattle.system_conf.specs.Configuration.{Configuration}
 use Rattle.child_steps.specs.Children.{helper_spares}
+use Rattle.install_facts.specs.Facts.{FactsContent}
+use Rattle.install_facts.specs.Gathering.{facts_since}
+use Rattle.install_facts.specs.declared.request.Request.{Request}
 use Rattle.install_facts.specs.declared.refusal.InstallRefusal.{InstallRefusal}
 use Rattle.install_facts.specs.declared.refusal.InstallRefusal.TheVariants as why
 use Rattle.install_core.specs.declared.ending.InstallEnd.{InstallEnd}
@@ -34,6 +37,14 @@ pub record IsSpared (spares : Spares) (old w : World) : Type 0 where
 pub record Untouched (tells : Bool) (c : Configuration) (old new : Past) : Type 0 where
   pub all : IsTrue tells → Always old new (IsSpared (helper_spares c []) (world_now old))
 
--- an install that was refused before its first step
-pub record RefusedBefore (tells : Bool) (c : Configuration) (old new : Past) (end : InstallEnd) : Type 0 where
-  pub untouched : (refusal : InstallRefusal) → end.result ≡ Err (Refused refusal) → comes_before refusal ≡ true → Untouched tells c old new
+-- the facts were gathered, so that the first step could begin
+pub record HasFacts (tells : Bool) (c : Configuration) (r : Request) (old : Past) : Type 0 where
+  pub mounted : Past
+  pub gathered : Past
+  pub facts : FactsContent
+  pub told : IsTrue tells → facts_since c r mounted gathered ≡ Some (Ok facts)
+
+-- all that is left alone after a refusal that comes before the first step, and after any answer without the facts
+pub record LeavesUntouched (tells : Bool) (c : Configuration) (r : Request) (old new : Past) (end : InstallEnd) : Type 0 where
+  pub refused : (refusal : InstallRefusal) → end.result ≡ Err (Refused refusal) → comes_before refusal ≡ true → Untouched tells c old new
+  pub unless : Untouched tells c old new ⊎ HasFacts tells c r old

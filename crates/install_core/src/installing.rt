@@ -5,7 +5,8 @@ ghost use Rattle.child_steps.specs.Children.{umount_child};
 ghost use Rattle.install_facts.specs.Gathering.{Noted};
 ghost use Rattle.install_core.specs.Course as spec;
 ghost use Rattle.install_core.specs.Done.{DoneAtSuccess};
-ghost use Rattle.install_core.specs.Untouched.{RefusedBefore};
+ghost use Rattle.install_core.specs.Faults.{FaultTold};
+ghost use Rattle.install_core.specs.Untouched.{LeavesUntouched};
 
 use crate::ending::{InstallEnd, Worked, end_of, mount_stop};
 use crate::working::work;
@@ -39,9 +40,10 @@ fn install_mounted<M: Machine, P: Report>(
 /// Installs a bundle: has it checked and mounted, gathers what the install goes by, does the steps of
 /// the list that follows from that, and unmounts the bundle on every way on which it was mounted.
 /// Clause `course`: what was done, in order, and the answer by it. Clause `done`: success is answered
-/// after all steps of the list alone. Clause `untouched`: after a refusal
-/// that comes before the first step the devices of all slots, the boot variables and the status file
-/// are as they were, and were so at each moment.
+/// after all steps of the list alone. Clause `untouched`: after a refusal that comes before the first
+/// step, and after any answer without all facts, the devices of all slots, the boot variables and the
+/// status file are as they were, and were so at each moment. Clause `fails`: the first call that failed
+/// is told, but for the unmount's.
 pub fn install<M: Machine, P: Report>(
     alloc: Global,
     m: &mut M,
@@ -54,7 +56,8 @@ pub fn install<M: Machine, P: Report>(
     ensures done { let c = system_configuration system.now in
         DoneAtSuccess M.tells c request.now (M.past m.old) result }
     ensures untouched { let c = system_configuration system.now in
-        RefusedBefore M.tells c (M.past m.old) (M.past m.new) result }
+        LeavesUntouched M.tells c request.now (M.past m.old) (M.past m.new) result }
+    ensures fails { FaultTold M.tells (M.past m.old) (M.past m.new) result }
     ensures counts { StopCounted (M.faults m.old) (M.faults m.new) (M.wants m.old) (M.wants m.new) result.result }
 {
     report.note(0, "installing");

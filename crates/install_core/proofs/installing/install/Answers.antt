@@ -6,7 +6,8 @@ use Rattle.child_steps.specs.Mounting.{MountEnds}
 use Rattle.system_conf.specs.Reads.{system_configuration}
 use Rattle.install_core.proofs.Going.{installs_mounted, installs_unmounted}
 use Rattle.install_core.proofs.AllDone.{done_at_success}
-use Rattle.install_core.proofs.LeftUntouched.{refused_before}
+use Rattle.install_core.proofs.FaultsTold.{fault_told}
+use Rattle.install_core.proofs.LeftUntouched.{leaves_untouched}
 use Rattle.install_core.proofs.installing.install.Goals as goal
 
 pub returns-in-Ok-clause-course : goal.returns-in-Ok-clause-course
@@ -21,13 +22,19 @@ returns-in-Err-clause-course g c =
     (subst (λ (b : Text). OnlyRuns g.M.Machine.tells (helper_spares (system_configuration c.args.system.now) []) (mounting (system_configuration c.args.system.now) b) (g.M.Machine.past c.args.m.now) (g.M.Machine.past c.mount_bundle.new.m)) c.as_str.ensures c.in-Err.ensures.kept) c.in-Err.ensures.fails (ap Err c.mount_stop.ensures) c.end_of-in-Err.ensures.is c.end_of-in-Err.ensures.closing c.end_of-in-Err.ensures.unread
 
 pub returns-in-Ok-clause-untouched : goal.returns-in-Ok-clause-untouched
-returns-in-Ok-clause-untouched g c = refused_before _ _ c.args.request.now _ _ _ _ c.end_of.result (returns-in-Ok-clause-course g c)
+returns-in-Ok-clause-untouched g c = leaves_untouched _ _ c.args.request.now _ _ _ _ c.end_of.result (returns-in-Ok-clause-course g c)
 
 pub returns-in-Err-clause-untouched : goal.returns-in-Err-clause-untouched
-returns-in-Err-clause-untouched g c = refused_before _ _ c.args.request.now _ _ _ _ c.end_of-in-Err.result (returns-in-Err-clause-course g c)
+returns-in-Err-clause-untouched g c = leaves_untouched _ _ c.args.request.now _ _ _ _ c.end_of-in-Err.result (returns-in-Err-clause-course g c)
 
 pub returns-in-Ok-clause-done : goal.returns-in-Ok-clause-done
 returns-in-Ok-clause-done g c = done_at_success _ _ c.args.request.now _ _ _ _ c.end_of.result (returns-in-Ok-clause-course g c)
 
 pub returns-in-Err-clause-done : goal.returns-in-Err-clause-done
 returns-in-Err-clause-done g c = done_at_success _ _ c.args.request.now _ _ _ _ c.end_of-in-Err.result (returns-in-Err-clause-course g c)
+
+pub returns-in-Ok-clause-fails : goal.returns-in-Ok-clause-fails
+returns-in-Ok-clause-fails g c = fault_told _ _ c.args.request.now _ _ _ _ c.end_of.result (returns-in-Ok-clause-course g c)
+
+pub returns-in-Err-clause-fails : goal.returns-in-Err-clause-fails
+returns-in-Err-clause-fails g c = fault_told _ _ c.args.request.now _ _ _ _ c.end_of-in-Err.result (returns-in-Err-clause-course g c)
