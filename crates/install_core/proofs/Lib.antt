@@ -23,3 +23,4 @@ pub mod Going
 pub mod LeftUntouched
 pub mod AllDone
 pub mod FaultsTold
+pub mod UnmountCounts

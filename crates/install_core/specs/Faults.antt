@@ -1,5 +1,6 @@
 -- Which call of an install failed.
-use Rattle.std.specs.Prelude.{◌≡◌, Bool, true, false, IsTrue, List, Option, Some, None, Ok, Err, if◌then◌else◌}
+use Rattle.std.specs.Prelude.{◌≡◌, ℕ, Bool, true, false, IsTrue, List, Option, Some, None, Ok, Err, if◌then◌else◌}
+use Rattle.updater_text.specs.Counts.{CountRose}
 use Rattle.machine.specs.declared.stops.Fault.{Fault}
 use Rattle.machine.specs.declared.stops.Stop.TheVariants.{Refused, Outside, NoMemory}
 use Rattle.machine.specs.Past.{Moment, Past, but_last, first_failed, moments_since}
@@ -30,3 +31,8 @@ TellsFault fault (Err NoMemory) = Unit {0}
 -- where told: the answer tells the first call that failed, but for the unmount's
 pub record FaultTold (tells : Bool) (old new : Past) (end : InstallEnd) : Type 0 where
   pub first : IsTrue tells → TellsFault (first_failed (before_unmount end.closing old new)) end.result
+
+-- the counts that rose where the unmount failed, or had no memory
+pub record UnmountCounted (faults faults' wants wants' : ℕ) (closed : Closing) : Type 0 where
+  pub failed : closed ≡ closing.Failed → CountRose faults faults'
+  pub wanted : closed ≡ closing.NoMemory → CountRose wants wants'

@@ -5,7 +5,7 @@ ghost use Rattle.child_steps.specs.Children.{umount_child};
 ghost use Rattle.install_facts.specs.Gathering.{Noted};
 ghost use Rattle.install_core.specs.Course as spec;
 ghost use Rattle.install_core.specs.Done.{DoneAtSuccess};
-ghost use Rattle.install_core.specs.Faults.{FaultTold};
+ghost use Rattle.install_core.specs.Faults.{FaultTold, UnmountCounted};
 ghost use Rattle.install_core.specs.Untouched.{LeavesUntouched};
 
 use crate::ending::{InstallEnd, Worked, end_of, mount_stop};
@@ -30,6 +30,7 @@ fn install_mounted<M: Machine, P: Report>(
         let worked = spec.WorkedOn M.tells c request.now (M.past m.old) (M.past m.new) in
         Noted (P.stands report.old) (P.stands report.new) (worked result.0.result result.1 result.0.book_unread) }
     ensures counts { StopCounted (M.faults m.old) (M.faults m.new) (M.wants m.old) (M.wants m.new) result.0.result }
+    ensures unmount { UnmountCounted (M.faults m.old) (M.faults m.new) (M.wants m.old) (M.wants m.new) result.1 }
 {
     report.note(20, "bundle mounted");
     let worked = work(alloc, m, system, request, report);
@@ -43,7 +44,8 @@ fn install_mounted<M: Machine, P: Report>(
 /// after all steps of the list alone. Clause `untouched`: after a refusal that comes before the first
 /// step, and after any answer without all facts, the devices of all slots, the boot variables and the
 /// status file are as they were, and were so at each moment. Clause `fails`: the first call that failed
-/// is told, but for the unmount's.
+/// is told, but for the unmount's. Clause `unmount`: the count that rose where that failed or had no
+/// memory.
 pub fn install<M: Machine, P: Report>(
     alloc: Global,
     m: &mut M,
@@ -59,6 +61,7 @@ pub fn install<M: Machine, P: Report>(
         LeavesUntouched M.tells c request.now (M.past m.old) (M.past m.new) result }
     ensures fails { FaultTold M.tells (M.past m.old) (M.past m.new) result }
     ensures counts { StopCounted (M.faults m.old) (M.faults m.new) (M.wants m.old) (M.wants m.new) result.result }
+    ensures unmount { UnmountCounted (M.faults m.old) (M.faults m.new) (M.wants m.old) (M.wants m.new) result.closing }
 {
     report.note(0, "installing");
     match mount_bundle(alloc, m, system, request.bundle.as_str()) {

@@ -8,6 +8,8 @@ use Rattle.install_core.proofs.Going.{installs_mounted, installs_unmounted}
 use Rattle.install_core.proofs.AllDone.{done_at_success}
 use Rattle.install_core.proofs.FaultsTold.{fault_told}
 use Rattle.install_core.proofs.LeftUntouched.{leaves_untouched}
+use Rattle.child_steps.specs.declared.close.Closing.TheVariants as closing
+use Rattle.install_core.proofs.UnmountCounts.{counted_as, counted_since, none_counted}
 use Rattle.install_core.proofs.installing.install.Goals as goal
 
 pub returns-in-Ok-clause-course : goal.returns-in-Ok-clause-course
@@ -38,3 +40,11 @@ returns-in-Ok-clause-fails g c = fault_told _ _ c.args.request.now _ _ _ _ c.end
 
 pub returns-in-Err-clause-fails : goal.returns-in-Err-clause-fails
 returns-in-Err-clause-fails g c = fault_told _ _ c.args.request.now _ _ _ _ c.end_of-in-Err.result (returns-in-Err-clause-course g c)
+
+pub returns-in-Ok-clause-unmount : goal.returns-in-Ok-clause-unmount
+returns-in-Ok-clause-unmount g c =
+    counted_as _ _ _ _ c.install_mounted-worked.result.1 c.end_of.result.closing c.end_of.ensures.closing
+    (counted_since _ _ _ _ _ _ c.install_mounted-worked.result.1 c.in-Ok.ensures.counts.0 c.in-Ok.ensures.counts.1 c.install_mounted-worked.ensures.unmount)
+
+pub returns-in-Err-clause-unmount : goal.returns-in-Err-clause-unmount
+returns-in-Err-clause-unmount g c = counted_as _ _ _ _ closing.NotMounted c.end_of-in-Err.result.closing c.end_of-in-Err.ensures.closing (none_counted _ _ _ _)
