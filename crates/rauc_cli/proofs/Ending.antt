@@ -20,7 +20,7 @@ use Rattle.machine.proofs.Joins.{now_unchanged, unchanged_none}
 use Rattle.machine.proofs.Running.{left_alone_refl}
 use Rattle.rauc_cli.specs.declared.outcome.Report.{Report}
 use Rattle.rauc_cli.specs.Lines.{fault_report, outside}
-use Rattle.rauc_cli.specs.Plans.{Plan, Effect, Nothing, Front, Children, Reading, Marking, AtTheEnd, IsPlanned, OnTheWay, ReportsBy, fault_in, to_report, to_report_by}
+use Rattle.rauc_cli.specs.Plans.{Plan, Effect, Nothing, Front, Children, Reading, Marking, Installing, AtTheEnd, IsPlanned, OnTheWay, ReportsBy, fault_in, to_report, to_report_by}
 use Rattle.rauc_cli.specs.Ends.{Ended, Says}
 
 fault_after : (p : Plan) (a b c : Past) → Grows a b → Grows b c → failed_since a b ≡ None → fault_in p a c ≡ fault_in p b c
@@ -56,6 +56,7 @@ some_none kind e = cc
 
 way_same : (e : Effect) (w u : World) → u ≡ w → OnTheWay e w u
 way_same Nothing w u h = h
+way_same Installing w u h = tt
 way_same (Children spares children) w u h = subst (λ (x : World). LeftAlone spares children w x) (sym h) (left_alone_refl spares children w)
 way_same (Front system image written) w u h = inl h
 way_same (Reading boot names) w u h =
@@ -94,6 +95,15 @@ ended_failed t p a b kind (Ok r) quiet unchanged fails is =
       at_the_end = λ told none. absurd (some_none kind (sym (fault told) ∙ none));
     }
 ended_failed t p a b kind (Err memory) quiet unchanged fails is = ended_memory t p a b memory (ways_unchanged t p.effect a b unchanged)
+
+-- the same plan by another name
+pub ended_same : (t : Bool) (p q : Plan) (a b : Past) (result : Result Report NoMemory) → (IsTrue t → p ≡ q) → Ended t p a b result → Ended t q a b result
+ended_same t p q a b result same h = record {
+  on_the_way = λ told. subst (λ (x : Plan). Always a b (OnTheWay x.effect (world_now a))) (same told) (h.on_the_way told);
+  reported = λ told. subst (λ (x : Plan). IfOk result (IsPlanned x a b)) (same told) (h.reported told);
+  at_the_end = λ told.
+      subst (λ (x : Plan). IfOk result (λ report. fault_in x a b ≡ None → AtTheEnd x.effect (world_now a) (world_now b))) (same told) (h.at_the_end told);
+}
 
 -- what changes nothing, and then the rest
 pub ended_after : (t : Bool) (p q : Plan) (a b c : Past) (result : Result Report NoMemory) → Unchanged t a b → Fails t a b None → (IsTrue t → p ≡ q) → Ended t p b c result → Ended t q a c result

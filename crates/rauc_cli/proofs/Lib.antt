@@ -1,7 +1,9 @@
+pub mod Behind
 pub mod BundleInfo
 pub mod Commands
 pub mod Ending
 pub mod Finishing
+pub mod Installs
 pub mod Loading
 pub mod SlotCommands
 pub mod Sparing

@@ -32,7 +32,7 @@ use Rattle.status_file.specs.Clock.{clock_since}
 use Rattle.rauc_words.specs.declared.asked.Asked.{Asked}
 use Rattle.rauc_words.specs.declared.asked.Asked.TheVariants as asked
 use Rattle.rauc_words.specs.declared.asked.Command.{Command}
-use Rattle.rauc_words.specs.declared.asked.Command.TheVariants.{WriteSlot, Info, Status, Mark}
+use Rattle.rauc_words.specs.declared.asked.Command.TheVariants.{Install, WriteSlot, Info, Status, Mark}
 use Rattle.rauc_words.specs.declared.asked.Run.{Run}
 use Rattle.slot_writer.specs.declared.refusal.SlotRefusal.{SlotRefusal}
 use Rattle.slot_writer.specs.declared.refusal.SlotWritten.{SlotWritten}
@@ -44,8 +44,8 @@ use Rattle.slot_writer.proofs.StayingTrue.{truth_kept}
 use Rattle.slot_writer.proofs.Targets.{slot_there}
 use Rattle.rauc_cli.specs.Conf.{of_conf, of_file, of_groups, system_at, system_in}
 use Rattle.rauc_cli.specs.declared.conf.NoSystem.{NoSystem}
-use Rattle.rauc_cli.specs.Ends.{TruthOf}
-use Rattle.rauc_cli.specs.Plans.{AfterAStop, Effect, From, Put, Nothing, Front, Children, Reading, Marking, asked_plan, booted_for, command_plan, given_by, mark_effect, marking_at, marking_with, slot_plan, slots_by, slots_for, system_plan}
+use Rattle.rauc_cli.specs.Ends.{RunningOf, TruthOf}
+use Rattle.rauc_cli.specs.Plans.{AfterAStop, Effect, From, Put, Nothing, Front, Children, Reading, Marking, Installing, asked_plan, booted_for, command_plan, given_by, mark_effect, marking_at, marking_with, slot_plan, slots_by, slots_for, system_plan}
 
 -- ---- the slots of a configuration have devices of their own
 
@@ -131,6 +131,7 @@ module _ (a c : Past) (given : Option (List ℕ)) (system : Configuration) (imag
   by_answer s name image (Err refusal) alone is e = let bad : ⊥ = cc in absurd bad
 
   by_command : (s : Configuration) (command : Command) → same_device s.slots ≡ None → (command_plan a c s given command).effect ≡ front → Writes s
+  by_command s (Install bundle ignored) alone e = let bad : ⊥ = cc in absurd bad
   by_command s (Info bundle form) alone e = let bad : ⊥ = cc in absurd bad
   by_command s (Status form detailed) alone e = let bad : ⊥ = cc in absurd bad
   by_command s (Mark act who) alone e = absurd (no_front (mark_changes a c given s act who) e)
@@ -151,6 +152,7 @@ plan_writes a c None system image' written e = let bad : ⊥ = cc in absurd bad
 -- ---- what its children leave alone has all slots
 
 effect_spares : Effect → Spares
+effect_spares Installing = record { disks = []; files = []; boot = false }
 effect_spares Nothing = record { disks = []; files = []; boot = false }
 effect_spares (Front system image written) = record { disks = []; files = []; boot = false }
 effect_spares (Children spares children) = spares
@@ -175,6 +177,7 @@ module _ (a c : Past) (spares : Spares) (children : List Child) (at : ℕ) (slot
 
   command_spares : (given : Option (List ℕ)) (system : Configuration) (command : Command) → (command_plan a c system given command).effect ≡ Children spares children → slice_get system.slots at ≡ Some slot → IsTrue (has_disk spares slot.device)
   unfolding effect_spares
+  command_spares given system (Install bundle ignored) e there = let bad : ⊥ = cc in absurd bad
   command_spares given system (WriteSlot name image) e there = absurd (answer_spares system name image (slot_answer system given name image (world_now a)) e)
   command_spares given system (Info bundle form) e there =
       subst (λ (s : Spares). IsTrue (has_disk s slot.device)) (ap effect_spares e) (has_device system.slots at slot there)
@@ -191,11 +194,12 @@ module _ (a c : Past) (spares : Spares) (children : List Child) (at : ℕ) (slot
   asked_spares None e there = let bad : ⊥ = cc in absurd bad
 
 -- so what runs keeps its bytes
-pub running_planned : (t : Bool) (asked : Option Asked) (a c : Past) → (IsTrue t → (v : World) → Held a c v → AfterAStop (asked_plan a c asked).effect (world_now a) v) → RunningKept t (slots_for asked (world_now a)) (booted_for asked (world_now a)) a c
+pub running_planned : (t : Bool) (asked : Option Asked) (a c : Past) → (IsTrue t → (v : World) → Held a c v → AfterAStop (asked_plan a c asked).effect (world_now a) v) → RunningOf (asked_plan a c asked).effect t (slots_for asked (world_now a)) (booted_for asked (world_now a)) a c
 unfolding with_file
 running_planned t asked a c left = by (asked_plan a c asked).effect refl left
   where
-    by : (e : Effect) → (asked_plan a c asked).effect ≡ e → (IsTrue t → (v : World) → Held a c v → AfterAStop e (world_now a) v) → RunningKept t (slots_for asked (world_now a)) (booted_for asked (world_now a)) a c
+    by : (e : Effect) → (asked_plan a c asked).effect ≡ e → (IsTrue t → (v : World) → Held a c v → AfterAStop e (world_now a) v) → RunningOf e t (slots_for asked (world_now a)) (booted_for asked (world_now a)) a c
+    by Installing is left = tt
     by (Front system image written) is left =
         let writes = plan_writes a c asked system image written is in
         subst (λ (slots : List Slot). RunningKept t slots (what_runs slots (given_by asked) (world_now a)) a c) (sym writes.has)
@@ -229,6 +233,7 @@ pub truth_planned : (t : Bool) (asked : Option Asked) (a c : Past) → (IsTrue t
 truth_planned t asked a c left = by (asked_plan a c asked).effect refl left
   where
     by : (e : Effect) → (asked_plan a c asked).effect ≡ e → (IsTrue t → (v : World) → Held a c v → AfterAStop e (world_now a) v) → TruthOf e t a c
+    by Installing is left = tt
     by (Front system image written) is left =
         let writes = plan_writes a c asked system image written is in
         truth_kept t system (Ok written) a c writes.alone

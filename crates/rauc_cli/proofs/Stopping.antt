@@ -11,7 +11,7 @@ use Rattle.machine.proofs.Moments.{held_of}
 use Rattle.machine.proofs.Only.{left_only, only_refl, same_but_wider}
 use Rattle.machine.proofs.Running.{left_by_a_stop}
 use Rattle.slot_writer.proofs.Stopping.{put_left}
-use Rattle.rauc_cli.specs.Plans.{Effect, Nothing, Front, Children, Reading, Marking, AfterAStop, From, OnTheWay}
+use Rattle.rauc_cli.specs.Plans.{Effect, Nothing, Front, Children, Reading, Marking, Installing, AfterAStop, From, OnTheWay}
 
 no_byte : (path : List ℕ) (i : ℕ) → InRange [] 0 0 path i → ⊥
 no_byte path i r = omega (arith, r.2)
@@ -22,6 +22,7 @@ same_stopped u v crash = same_but_wider (InRange [] 0 0) (λ path i. ⊥) u v no
 
 after_a_stop : (e : Effect) (w u v : World) → OnTheWay e w u → Crash u v → AfterAStop e w v
 after_a_stop Nothing w u v same crash = same_stopped w v (subst (λ (x : World). Crash x v) same crash)
+after_a_stop Installing w u v way crash = tt
 after_a_stop (Front system image written) w u v kept crash = put_left system (Ok written) w u v kept crash
 after_a_stop (Children spares children) w u v left crash = left_by_a_stop spares children w u v left crash
 after_a_stop (Reading boot names) w u v only crash = (u, only, same_stopped u v crash)

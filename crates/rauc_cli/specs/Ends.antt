@@ -1,7 +1,7 @@
 -- How the program ends.
-use Rattle.std.specs.Prelude.{◌≡◌, ◌≤◌, ◌⊎◌, ℕ, Bool, IsTrue, List, [], Option, Some, None, Result, Ok, Err, IfOk}
+use Rattle.std.specs.Prelude.{◌≡◌, ◌≤◌, ◌⊎◌, ℕ, Bool, true, IsTrue, List, [], ◌++◌, ◌&&◌, Option, Some, None, Result, Ok, Err, IfOk}
 use Rattle.updater_text.specs.Counts.{CountRose}
-use Rattle.updater_text.specs.Sinks.{Shown, WritesBoth}
+use Rattle.updater_text.specs.Sinks.{Shown, WritesBoth, WritesText}
 use Rattle.updater_text.specs.declared.stops.NoMemory.{NoMemory}
 use Rattle.machine.specs.declared.stops.Stop.{Stop}
 use Rattle.machine.specs.declared.stops.Stop.TheVariants as stop
@@ -11,7 +11,7 @@ use Rattle.rauc_words.specs.Table.{command_of, conf_path, slot_word}
 use Rattle.rauc_words.specs.declared.asked.Asked.{Asked}
 use Rattle.rauc_words.specs.declared.asked.Asked.TheVariants as asked
 use Rattle.rauc_words.specs.declared.asked.Command.{Command}
-use Rattle.rauc_words.specs.declared.asked.Command.TheVariants.{WriteSlot, Info, Status, Mark}
+use Rattle.rauc_words.specs.declared.asked.Command.TheVariants.{Install, WriteSlot, Info, Status, Mark}
 use Rattle.rauc_words.specs.declared.asked.Run.{Run}
 use Rattle.system_conf.specs.Configuration.{Configuration}
 use Rattle.system_conf.specs.declared.slot.Slot.{Slot}
@@ -25,11 +25,16 @@ use Rattle.manifest.specs.Reads.{manifest_content}
 use Rattle.manifest.specs.declared.content.Manifest.{Manifest}
 use Rattle.child_steps.specs.declared.close.Closing.{Closing}
 use Rattle.child_steps.specs.declared.close.Closing.TheVariants as closing
+use Rattle.install_facts.specs.declared.report.Note.{Note}
+use Rattle.install_core.specs.Course.{Answer, IsEnd}
+use Rattle.install_core.specs.declared.ending.InstallEnd.{InstallEnd}
+use Rattle.install_notes.specs.Lines.{note_lines}
 use Rattle.mark_report.specs.declared.bundle_info.InfoRefusal.{InfoRefusal}
 use Rattle.mark_report.specs.declared.bundle_info.InfoRefusal.TheVariants.{Mount, Bundle}
 use Rattle.slot_writer.specs.declared.refusal.SlotRefusal.{SlotRefusal}
 use Rattle.slot_writer.specs.declared.refusal.SlotWritten.{SlotWritten}
 use Rattle.slot_writer.specs.Checks.{NamesSlot}
+use Rattle.slot_graph.specs.declared.state.Booted.{Booted}
 use Rattle.running_system.specs.Running.{RunningKept}
 use Rattle.status_file.specs.Truth.{TruthKept}
 use Rattle.rauc_cli.specs.declared.conf.NoSystem.TheVariants.{Missing, Bad}
@@ -37,8 +42,9 @@ use Rattle.rauc_cli.specs.declared.outcome.Outcome.{Outcome}
 use Rattle.rauc_cli.specs.declared.outcome.Outcome.TheVariants as end
 use Rattle.rauc_cli.specs.declared.outcome.Report.{Report}
 use Rattle.rauc_cli.specs.declared.outcome.Finish.{Finish}
-use Rattle.rauc_cli.specs.Lines.{boot_refusal_report, closing_warnings, fault_report, help_report, info_refusal_report, mark_refusal_report, marked_report, memory_report, no_system_report, outside, slot_refusal_report, told_report, usage_report, view_report, written_report}
-use Rattle.rauc_cli.specs.Plans.{Effect, Front, Plan, AfterAStop, AtTheEnd, IsPlanned, OnTheWay, booted_for, fault_in, plan_of, slots_for}
+use Rattle.rauc_cli.specs.declared.outcome.Ran.{Ran}
+use Rattle.rauc_cli.specs.Lines.{boot_refusal_report, closing_warnings, fault_report, help_report, info_refusal_report, install_report, installed_line, mark_refusal_report, marked_report, memory_after, no_system_report, outside, slot_refusal_report, told_report, usage_report, view_report, written_report}
+use Rattle.rauc_cli.specs.Plans.{Effect, Front, Installing, Plan, AfterAStop, AtTheEnd, IsPlanned, OnTheWay, booted_for, fault_in, plan_of, slots_for}
 
 -- ---- texts: told or not, a report's texts are those of its outcome
 
@@ -73,8 +79,18 @@ MarkTexts act who (end.Mark why) report = (slots : List Slot) × MarkedFor slots
 MarkTexts act who (end.Outside kind) report = report ≡ outside kind
 MarkTexts act who outcome report = ⊥
 
+-- an install; a refusal that names a slot by its place has a name from some list of slots
+pub record InstallTexts (bundle : List ℕ) (report : Report) : Type 0 where
+  pub slots : List Slot
+  pub answer : Answer
+  pub notes : List Note
+  pub end : InstallEnd
+  pub line : IsEnd slots answer end
+  pub is : report ≡ install_report (installed_line bundle) notes end
+
 -- each command
 abbrev pub CommandTexts : Command → Report → Type 0
+CommandTexts (Install bundle ignored) report = InstallTexts bundle report
 CommandTexts (WriteSlot slot image) report = SlotTexts slot image report.outcome report
 CommandTexts (Info bundle form) report = InfoTexts form report.outcome report
 CommandTexts (Status form detailed) report = StatusTexts form detailed report.outcome report
@@ -91,6 +107,30 @@ abbrev pub HasTexts : Option Asked → Report → Type 0
 HasTexts (Some (asked.Run run)) report = RunTexts run report.outcome report
 HasTexts (Some asked.Help) report = report ≡ help_report
 HasTexts None report = report ≡ usage_report
+
+-- ---- lines that are put as they come
+
+-- those of the notes of an install
+abbrev pub NoteLines : List ℕ → Type 0
+NoteLines lines = (notes : List Note) × (lines ≡ note_lines notes)
+
+-- other commands have none
+abbrev pub CommandLines : Command → List ℕ → Type 0
+CommandLines (Install bundle ignored) lines = NoteLines lines
+CommandLines command lines = lines ≡ []
+
+abbrev pub HasLines : Option Asked → List ℕ → Type 0
+HasLines (Some (asked.Run run)) lines = CommandLines run.command lines
+HasLines asked lines = lines ≡ []
+
+-- out of memory, behind such lines
+abbrev pub LacksMemory : Option Asked → Report → Type 0
+LacksMemory asked report = (lines : List ℕ) × HasLines asked lines × (report ≡ memory_after lines)
+
+-- a report with these lines in front of it
+abbrev pub behind : List ℕ → Result Report NoMemory → Result Report NoMemory
+behind lines (Ok report) = Ok (record report { out = lines ++ report.out })
+behind lines (Err memory) = Err memory
 
 -- ---- counts
 
@@ -128,6 +168,22 @@ pub record Ended (tells : Bool) (plan : Plan) (old new : Past) (result : Result 
   pub reported : IsTrue tells → IfOk result (IsPlanned plan old new)
   pub at_the_end : IsTrue tells → IfOk result (λ report. fault_in plan old new ≡ None → AtTheEnd plan.effect (world_now old) (world_now new))
 
+-- it was carried out, and such lines were put on a sink: the report behind them is one of those, with such texts
+pub record RunsBy (tells : Bool) (plan : Plan) (Texts : Report → Type 0) (Lines : List ℕ → Type 0) (old new : Past) (out out' : Shown) (ran : Ran) : Type 0 where
+  pub lines : List ℕ
+  pub are : Lines lines
+  pub put : WritesText out out' lines true ran.whole
+  pub ended : Ended tells plan old new (behind lines ran.report)
+  pub texts : IfOk (behind lines ran.report) Texts
+
+-- the rest of a report went to the two sinks, where what was put before it on the first is whole or not
+pub record TellsRest (out err : Shown × Shown) (whole : Bool) (text_out text_err : List ℕ) (told : Bool) : Type 0 where
+  pub out_whole : Bool
+  pub err_whole : Bool
+  pub on_out : WritesText out.0 out.1 text_out whole out_whole
+  pub on_err : WritesText err.0 err.1 text_err true err_whole
+  pub both : told ≡ (out_whole && err_whole)
+
 -- ---- the program; a pair has what stands before the call and what stands after it
 
 -- the outcome and what went to the two sinks are one report: its texts are those of its outcome, and where told it is a planned one, unless memory ran out
@@ -135,8 +191,8 @@ pub record Reports (tells : Bool) (words : List (List ℕ)) (past : Past × Past
   pub report : Report
   pub outcome : finish.outcome ≡ report.outcome
   pub put : WritesBoth out.0 out.1 err.0 err.1 report.out report.err finish.told
-  pub texts : (report ≡ memory_report) ⊎ HasTexts (command_of words) report
-  pub planned : IsTrue tells → (report ≡ memory_report) ⊎ IsPlanned (plan_of words past.0 past.1) past.0 past.1 report
+  pub texts : LacksMemory (command_of words) report ⊎ HasTexts (command_of words) report
+  pub planned : IsTrue tells → LacksMemory (command_of words) report ⊎ IsPlanned (plan_of words past.0 past.1) past.0 past.1 report
 
 -- where told: each world since, inside the calls too, is on the way of the plan, and where all was done the end is the plan's
 pub record CarriesOut (tells : Bool) (words : List (List ℕ)) (past : Past × Past) (outcome : Outcome) : Type 0 where
@@ -148,10 +204,15 @@ abbrev pub TruthOf : Effect → Bool → Past → Past → Type 0
 TruthOf (Front system image written) tells old new = TruthKept tells system old new
 TruthOf effect tells old new = Unit {0}
 
+-- but for an install, of which it is not said here: what runs keeps its bytes
+abbrev pub RunningOf : Effect → Bool → List Slot → Booted → Past → Past → Type 0
+RunningOf Installing tells slots booted old new = Unit {0}
+RunningOf effect tells slots booted old new = RunningKept tells slots booted old new
+
 -- where told, and wherever the power stops: only what the plan may change has changed, and what runs keeps its bytes
 pub record StandsAStop (tells : Bool) (words : List (List ℕ)) (past : Past × Past) : Type 0 where
   pub held : IsTrue tells → (v : World) → Held past.0 past.1 v → AfterAStop (plan_of words past.0 past.1).effect (world_now past.0) v
-  pub running : RunningKept tells (slots_for (command_of words) (world_now past.0)) (booted_for (command_of words) (world_now past.0)) past.0 past.1
+  pub running : RunningOf (plan_of words past.0 past.1).effect tells (slots_for (command_of words) (world_now past.0)) (booted_for (command_of words) (world_now past.0)) past.0 past.1
   pub truth : TruthOf (plan_of words past.0 past.1).effect tells past.0 past.1
 
 -- told or not: `Help` comes exactly where the words ask for help, and `Usage` exactly where they ask for nothing

@@ -1,8 +1,10 @@
 -- What is put on standard output and standard error, and the exit status.
-use Rattle.std.specs.Prelude.{ℕ, Bool, true, false, List, [], ◌++◌, codes, decimal, Option, Some, None, Result, Ok, Err}
+use Rattle.std.specs.Prelude.{ℕ, Bool, true, false, List, [], ◌++◌, codes, decimal, unwrap_or, Option, Some, None, Result, Ok, Err}
 use Rattle.std.specs.Option.{option_map_or}
 use Rattle.hex.specs.Hex.{encode_lower}
 use Rattle.machine.specs.declared.stops.Fault.{Fault}
+use Rattle.machine.specs.declared.stops.Stop.{Stop}
+use Rattle.machine.specs.declared.stops.Stop.TheVariants as stop
 use Rattle.machine.specs.Faults.{fault_cause}
 use Rattle.keyfile.specs.Causes.{key_cause}
 use Rattle.updater_text.specs.declared.form.Form.{Form}
@@ -16,6 +18,11 @@ use Rattle.rauc_cli.specs.declared.conf.BadConf.{BadConf}
 use Rattle.rauc_cli.specs.declared.conf.BadConf.TheVariants as bad
 use Rattle.rauc_cli.specs.declared.conf.NoSystem.{NoSystem}
 use Rattle.rauc_cli.specs.declared.conf.NoSystem.TheVariants.{Missing, Bad}
+use Rattle.install_facts.specs.declared.refusal.InstallRefusal.{InstallRefusal}
+use Rattle.install_facts.specs.declared.report.Note.{Note}
+use Rattle.install_steps.specs.declared.running.Installed.{Installed}
+use Rattle.install_core.specs.declared.ending.InstallEnd.{InstallEnd}
+use Rattle.install_notes.specs.Lines.{note_lines}
 use Rattle.system_conf.specs.Causes.{conf_cause}
 use Rattle.slot_writer.specs.declared.refusal.SlotRefusal.{SlotRefusal}
 use Rattle.slot_writer.specs.Causes.{slot_cause}
@@ -91,9 +98,12 @@ fault_report notes warnings kind = record { outcome = end.Outside kind; out = no
 abbrev pub outside : Fault → Report
 outside kind = fault_report [] [] kind
 
--- out of memory
+-- out of memory, after these lines on standard output
+abbrev pub memory_after : List ℕ → Report
+memory_after lines = record { outcome = end.NoMemory; out = lines; err = error_line (codes "out of memory") }
+
 abbrev pub memory_report : Report
-memory_report = error_report end.NoMemory (codes "out of memory")
+memory_report = memory_after []
 
 -- ---- info
 
@@ -163,3 +173,38 @@ mark_refusal_report slots why = error_report (end.Mark why) (mark_cause slots wh
 abbrev pub mark_report : List Slot → Result Marked MarkRefusal → Report
 mark_report slots (Ok marked) = marked_report marked
 mark_report slots (Err why) = mark_refusal_report slots why
+
+-- ---- an install
+
+-- the last line of an install that is done
+abbrev pub installed_line : List ℕ → List ℕ
+installed_line bundle = codes "Installing " ++ (bundle ++ codes " succeeded\n")
+
+-- the warnings of an install
+abbrev pub install_warnings : Bool → Closing → List ℕ
+install_warnings unread closed = unread_warning unread ++ closing_warnings closed
+
+-- an install that is done, which put these notes
+abbrev pub installed_report : List ℕ → List Note → List ℕ → Report
+installed_report last notes warnings = record { outcome = end.Done; out = note_lines notes ++ last; err = warnings }
+
+abbrev pub stop_outcome : Stop InstallRefusal → Outcome
+stop_outcome (stop.Refused why) = end.Install why
+stop_outcome (stop.Outside kind) = end.Outside kind
+stop_outcome stop.NoMemory = end.NoMemory
+
+-- the line of a stop; where there is none, memory was out
+abbrev pub stop_line : Option (List ℕ) → List ℕ
+stop_line line = error_line (unwrap_or line (codes "out of memory"))
+
+-- an install that stopped
+abbrev pub stopped_report : List Note → List ℕ → Stop InstallRefusal → Option (List ℕ) → Report
+stopped_report notes warnings stop line = record { outcome = stop_outcome stop; out = note_lines notes; err = warnings ++ stop_line line }
+
+abbrev pub report_by : List ℕ → List Note → List ℕ → Option (List ℕ) → Result Installed (Stop InstallRefusal) → Report
+report_by last notes warnings line (Ok installed) = installed_report last notes warnings
+report_by last notes warnings line (Err stop) = stopped_report notes warnings stop line
+
+-- what is reported of an install, with its last line and its notes
+abbrev pub install_report : List ℕ → List Note → InstallEnd → Report
+install_report last notes end = report_by last notes (install_warnings end.book_unread end.closing) end.line end.result

@@ -1,5 +1,5 @@
 -- What a call of the program comes to, from its words and from the past since its start.
-use Rattle.std.specs.Prelude.{◌≡◌, ◌⊎◌, ℕ, ℤ, Bool, false, List, [], Option, Some, None, Result, Ok, Err}
+use Rattle.std.specs.Prelude.{◌≡◌, ◌⊎◌, ℕ, ℤ, Bool, true, false, List, [], Option, Some, None, Result, Ok, Err}
 use Rattle.boot_model.specs.Vars.{Variables}
 use Rattle.boot_model.specs.declared.boot_kind.BootKind.{BootKind}
 use Rattle.boot_commands.specs.declared.command.Command.{Command as BootCommand}
@@ -14,13 +14,13 @@ use Rattle.machine.specs.World.{file, with_file}
 use Rattle.machine.specs.declared.world.World.{World}
 use Rattle.machine.specs.declared.world.Child.{Child}
 use Rattle.machine.specs.declared.world.Spares.{Spares}
-use Rattle.machine.specs.Past.{Call, Past, moments_since, world_now}
+use Rattle.machine.specs.Past.{Call, Fails, Past, moments_since, world_now}
 use Rattle.machine.specs.Runs.{LeftAlone, LeftByAStop, first_failed_but, is_run_of, runs_since}
-use Rattle.machine.specs.Frames.{SameBut}
+use Rattle.machine.specs.Frames.{SameBut, Unchanged}
 use Rattle.rauc_words.specs.declared.asked.Asked.{Asked}
 use Rattle.rauc_words.specs.declared.asked.Asked.TheVariants as asked
 use Rattle.rauc_words.specs.declared.asked.Command.{Command}
-use Rattle.rauc_words.specs.declared.asked.Command.TheVariants.{WriteSlot, Info, Status, Mark}
+use Rattle.rauc_words.specs.declared.asked.Command.TheVariants.{Install, WriteSlot, Info, Status, Mark}
 use Rattle.rauc_words.specs.declared.asked.Run.{Run}
 use Rattle.rauc_words.specs.Table.{command_of, conf_path, slot_word}
 use Rattle.system_conf.specs.Configuration.{Configuration}
@@ -42,6 +42,13 @@ use Rattle.updater_text.specs.declared.form.Form.{Form}
 use Rattle.child_steps.specs.Children.{helper_spares, umount_child}
 use Rattle.child_steps.specs.Closing.{closing_in}
 use Rattle.child_steps.specs.declared.close.Closing.{Closing}
+use Rattle.install_facts.specs.declared.report.Note.{Note}
+use Rattle.install_facts.specs.declared.request.Request.{Request}
+use Rattle.install_core.specs.Course.{Answer, Course, IsEnd}
+use Rattle.install_core.specs.Done.{DoneAtSuccess}
+use Rattle.install_core.specs.Faults.{FaultTold}
+use Rattle.install_core.specs.Untouched.{LeavesUntouched}
+use Rattle.install_core.specs.declared.ending.InstallEnd.{InstallEnd}
 use Rattle.manifest.specs.Contents.{Content}
 use Rattle.mark_report.specs.declared.bundle_info.InfoRefusal.{InfoRefusal}
 use Rattle.mark_report.specs.Opening.{info_children, info_in}
@@ -50,7 +57,7 @@ use Rattle.slot_writer.specs.Slots.{IsPut, PutKept, PutStopped, slot_answer}
 use Rattle.rauc_cli.specs.declared.conf.NoSystem.{NoSystem}
 use Rattle.rauc_cli.specs.declared.outcome.Report.{Report}
 use Rattle.rauc_cli.specs.Conf.{system_at}
-use Rattle.rauc_cli.specs.Lines.{closing_warnings, fault_report, help_report, info_report, mark_report, no_system_report, slot_report, status_report, usage_report}
+use Rattle.rauc_cli.specs.Lines.{closing_warnings, fault_report, help_report, info_report, install_report, installed_line, mark_report, no_system_report, outside, slot_report, status_report, usage_report}
 
 -- ---- effects: what a command may change
 
@@ -63,12 +70,14 @@ Put = List ℕ × List ℕ
 -- or what these children need not leave alone
 -- or nothing but that what reads the variables of this boot loader is run
 -- or the variables of the machine's boot loader, by these commands, whatever was read before; and this file, where one is put
+-- or what an install changes, of which its course tells
 pub data Effect : Type 0 where
   Nothing : Effect
   Front : (system : Configuration) (image : List ℕ) (written : SlotWritten) → Effect
   Children : (spares : Spares) (children : List Child) → Effect
   Reading : (boot : BootKind) (names : List (List ℕ)) → Effect
   Marking : (machine : BootKind) (commands : Variables → List BootCommand) (put : Option Put) → Effect
+  Installing : Effect
 
 -- from the world w, or, where a file is put, from w with that file
 abbrev pub From : Option Put → World → (World → Type 0) → Type 0
@@ -82,6 +91,7 @@ OnTheWay (Front system image written) w u = PutKept system (Ok written) w u
 OnTheWay (Children spares children) w u = LeftAlone spares children w u
 OnTheWay (Reading boot names) w u = OnlyReadVars boot names w u
 OnTheWay (Marking machine commands put) w u = (read : Variables) × From put w (λ x. Through machine (commands read) x u)
+OnTheWay Installing w u = Unit {0}
 
 -- the world v at the end, where all was done
 abbrev pub AtTheEnd : Effect → World → World → Type 0
@@ -90,6 +100,7 @@ AtTheEnd (Front system image written) w v = IsPut system image written w v
 AtTheEnd (Children spares children) w v = LeftAlone spares children w v
 AtTheEnd (Reading boot names) w v = OnlyReadVars boot names w v
 AtTheEnd (Marking machine commands put) w v = (read : Variables) × From put w (λ x. Through machine (commands read) x v)
+AtTheEnd Installing w v = Unit {0}
 
 -- the world v that a stop of the power may leave
 abbrev pub AfterAStop : Effect → World → World → Type 0
@@ -98,6 +109,7 @@ AfterAStop (Front system image written) w v = PutStopped system (Ok written) w v
 AfterAStop (Children spares children) w v = LeftByAStop spares children w v
 AfterAStop (Reading boot names) w v = (u : World) × OnlyReadVars boot names w u × SameBut (λ path i. ⊥) u v
 AfterAStop (Marking machine commands put) w v = (read : Variables) × From put w (λ x. StoppedThrough machine (commands read) x v)
+AfterAStop Installing w v = Unit {0}
 
 -- ---- plans: what is reported, and what may be changed
 
@@ -188,8 +200,49 @@ mark_plan machine system act choice clock w v =
     to_report_by (λ r. (answer : Result Marked MarkRefusal) × MarkAnswers system act (noted_by system act) choice clock w v (answered answer) × (r ≡ mark_report system.slots answer))
     (mark_effect machine system act choice clock w)
 
+-- an install since old ended so, with these notes: its course, and what `install` says beside it
+pub record InstallEnds (c : Configuration) (r : Request) (old new : Past) (notes : List Note) (end : InstallEnd) : Type 0 where
+  pub answer : Answer
+  pub course : Course true c r old new answer end.closing end.book_unread notes
+  pub is : IsEnd c.slots answer end
+  pub done : DoneAtSuccess true c r old end
+  pub untouched : LeavesUntouched true c r old new end
+  pub fails : FaultTold true old new end
+
+-- the configuration was read; then came an install that ended so, and this is reported of it
+pub record InstallReported (c : Configuration) (r : Request) (old new : Past) (report : Report) : Type 0 where
+  pub loaded : Past
+  pub unchanged : Unchanged true old loaded
+  pub fine : Fails true old loaded None
+  pub notes : List Note
+  pub end : InstallEnd
+  pub ends : InstallEnds c r loaded new notes end
+  pub is : report ≡ install_report (installed_line r.bundle) notes end
+
+-- or a call failed before that, which changed nothing
+pub record NotBegun (old new : Past) (report : Report) : Type 0 where
+  pub kind : Fault
+  pub unchanged : Unchanged true old new
+  pub fails : Fails true old new (Some kind)
+  pub is : report ≡ outside kind
+
+-- an install, which tells itself of the calls that failed
+abbrev pub install_plan : Configuration → Request → Past → Past → Plan
+install_plan c r old new = record {
+  Reports = λ report. InstallReported c r old new report ⊎ NotBegun old new report;
+  notes = [];
+  warnings = [];
+  passes = λ call. true;
+  effect = Installing;
+}
+
+-- what the words ask an install for
+abbrev pub request_of : Option (List ℕ) → List ℕ → Bool → Request
+request_of given bundle ignored = record { bundle = bundle; given_boot = given; ignore_compatible = ignored }
+
 -- each command, with its configuration and the name that counts as booted, where one is given
 abbrev pub command_plan : Past → Past → Configuration → Option (List ℕ) → Command → Plan
+command_plan old new system given (Install bundle ignored) = install_plan system (request_of given bundle ignored) old new
 command_plan old new system given (WriteSlot slot image) =
     slot_plan system slot image (slot_answer system given slot image (world_now old))
 command_plan old new system given (Info bundle form) =

@@ -20,8 +20,8 @@ fn warning_line(alloc: Global, why: &str) -> Result<Text, NoMemory>
     Ok(Text::from_string(line))
 }
 
-// The warning of a bundle that was not unmounted; none where it was, or was never mounted.
-fn closing_warnings(alloc: Global, closing: Closing) -> Result<Text, NoMemory>
+/// The warning of a bundle that was not unmounted; none where it was, or was never mounted.
+pub fn closing_warnings(alloc: Global, closing: Closing) -> Result<Text, NoMemory>
     ensures { IfOk result (λ t. t ≡ closing_warnings closing) }
 {
     match closing_cause(alloc, closing)? {
@@ -30,8 +30,8 @@ fn closing_warnings(alloc: Global, closing: Closing) -> Result<Text, NoMemory>
     }
 }
 
-// Warnings, and the line of an error.
-fn warned_line(alloc: Global, warnings: &str, cause: &str) -> Result<Text, NoMemory>
+/// Warnings, and the line of an error.
+pub fn warned_line(alloc: Global, warnings: &str, cause: &str) -> Result<Text, NoMemory>
     ensures { IfOk result (λ t. t ≡ warnings.now ++ error_line cause.now) }
 {
     let lines = format!(in alloc; "{warnings}rauc: {cause}\n")?;

@@ -3,12 +3,15 @@
 
 mod conf;
 mod info_lines;
+mod install_lines;
+mod installing;
 mod lines;
 mod outcome;
 mod run;
 mod slot_lines;
 
 pub use conf::{BadConf, NoSystem, load_system, read_conf};
+pub use install_core::{InstallRefusal, Request};
 pub use mark_report::{Form, InfoRefusal};
 pub use outcome::{Finish, Outcome};
 pub use rauc_words::{Asked, Command, Place, Run, read_words};

@@ -3,11 +3,12 @@ ghost use Rattle.rauc_cli.specs.Lines.{status_of};
 
 use crate::BadConf;
 use boot_backends::BootRefusal;
+use install_core::InstallRefusal;
 use machine::Fault;
 use mark_report::InfoRefusal;
 use slot_marks::MarkRefusal;
 use slot_writer::SlotRefusal;
-use updater_text::{Items, Text};
+use updater_text::{Items, NoMemory, Text};
 
 /// How a call of the program ended.
 #[derive(Debug, Drop)]
@@ -22,6 +23,8 @@ pub enum Outcome {
     NoConfig,
     /// The configuration is refused.
     BadConfig(BadConf),
+    /// An install is refused.
+    Install(InstallRefusal),
     /// `info` is refused.
     Info(InfoRefusal),
     /// A slot is not marked.
@@ -36,12 +39,20 @@ pub enum Outcome {
     NoMemory,
 }
 
-/// How a call of the program ended, and what is put on its two sinks.
+/// How a call of the program ended, and what is put on its two sinks: of an install, what is left to
+/// put behind its notes.
 #[derive(Debug, Drop)]
 pub struct Report {
     pub outcome: Outcome,
     pub out: Items<u8>,
     pub err: Text,
+}
+
+/// What came of a command: its report, and whether all was put whole that it put as it went.
+#[derive(Drop)]
+pub struct Ran {
+    pub report: Result<Report, NoMemory>,
+    pub whole: bool,
 }
 
 /// How a call of the program ended, and whether it could tell all of it.

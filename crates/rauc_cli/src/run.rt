@@ -1,4 +1,4 @@
-ghost use Rattle.std.specs.Prelude.{◌≡◌, ℕ, List, IfOk, Some, option_map};
+ghost use Rattle.std.specs.Prelude.{◌≡◌, ℕ, List, IfOk, Some, option_map, true};
 ghost use Rattle.machine.specs.Past.{world_now};
 ghost use Rattle.system_conf.specs.Reads.{system_configuration};
 ghost use Rattle.rauc_words.specs.Table.{command_of};
@@ -10,11 +10,12 @@ ghost use Rattle.slot_marks.specs.Marking.{choice};
 ghost use Rattle.status_file.specs.Clock.{clock_since};
 ghost use Rattle.slot_writer.specs.Slots.{slot_answer};
 ghost use Rattle.rauc_cli.specs.Plans.{asked_plan, command_plan, info_plan, mark_plan, plan_of, slot_plan, status_plan};
-ghost use Rattle.rauc_cli.specs.Ends.{CarriesOut, CommandTexts, Ended, HasCause, HasTexts, InfoTexts, MarkTexts, OutcomeCounted, Reports, SlotTexts, StandsAStop, StatusTexts, outcome_in};
+ghost use Rattle.rauc_cli.specs.Ends.{CarriesOut, CommandLines, CommandTexts, Ended, HasCause, HasLines, HasTexts, InfoTexts, MarkTexts, OutcomeCounted, Reports, RunsBy, SlotTexts, StandsAStop, StatusTexts, TellsRest, outcome_in};
 
 use crate::info_lines::info_report;
+use crate::installing::run_install;
 use crate::lines::{help_report, no_system_report, outside, usage_report};
-use crate::outcome::Report;
+use crate::outcome::{Ran, Report};
 use crate::slot_lines::{mark_report, slot_report, status_report};
 use crate::{Asked, Command, Finish, Outcome, Place, Run, load_system, read_words};
 use machine::{Machine, Stop};
@@ -25,7 +26,7 @@ use slot_writer::write_slot;
 use status_report::status;
 use std::alloc::Global;
 use system_conf::System;
-use updater_text::{NoMemory, Sink, Text, tell};
+use updater_text::{NoMemory, Sink, Text, say};
 
 fn run_write_slot<M: Machine>(
     alloc: Global,
@@ -93,28 +94,54 @@ fn run_mark<M: Machine>(
     mark_report(alloc, system, action, who, marked)
 }
 
+// A report before which nothing was put.
+fn quiet(report: Result<Report, NoMemory>) -> Ran
+    ensures { result ≡ record { report = report; whole = true } }
+{
+    Ran {
+        report,
+        whole: true,
+    }
+}
+
 // Carries out a command, with its configuration and the name that counts as booted.
-fn run_command<M: Machine>(
+fn run_command<M: Machine, O: Sink>(
     alloc: Global,
     m: &mut M,
     system: &System,
     given: Option<&str>,
     command: &Command,
-) -> Result<Report, NoMemory>
-    ensures ended { Ended M.tells (command_plan (M.past m.old) (M.past m.new) (system_configuration system.now) (option_map (λ name. name.now) given.entry) command.now) (M.past m.old) (M.past m.new) result }
-    ensures texts { IfOk result (CommandTexts command.now) }
-    ensures counts { OutcomeCounted (M.faults m.old) (M.faults m.new) (M.wants m.old) (M.wants m.new) (outcome_in result) }
+    out: &mut O,
+) -> Ran
+    ensures runs { let c = system_configuration system.now in
+        let plan = command_plan (M.past m.old) (M.past m.new) c (option_map (λ name. name.now) given.entry) command.now in
+        RunsBy M.tells plan (CommandTexts command.now) (CommandLines command.now) (M.past m.old) (M.past m.new) (O.shown out.old) (O.shown out.new) result }
+    ensures counts { OutcomeCounted (M.faults m.old) (M.faults m.new) (M.wants m.old) (M.wants m.new) (outcome_in result.report) }
 {
     match command {
-        Command::WriteSlot { slot, image } => {
-            run_write_slot(alloc, m, system, given, slot.as_str(), image.as_str())
+        Command::Install {
+            bundle,
+            ignore_compatible,
+        } => {
+            run_install(
+                alloc,
+                m,
+                system,
+                given,
+                bundle.as_str(),
+                *ignore_compatible,
+                out,
+            )
         }
-        Command::Info { bundle, form } => run_info(alloc, m, system, bundle.as_str(), *form),
+        Command::WriteSlot { slot, image } => {
+            quiet(run_write_slot(alloc, m, system, given, slot.as_str(), image.as_str()))
+        }
+        Command::Info { bundle, form } => quiet(run_info(alloc, m, system, bundle.as_str(), *form)),
         Command::Status { form, detailed } => {
-            run_status(alloc, m, system, given, *form, *detailed)
+            quiet(run_status(alloc, m, system, given, *form, *detailed))
         }
         Command::Mark { action, who } => {
-            run_mark(alloc, m, system, given, *action, slot_word(who))
+            quiet(run_mark(alloc, m, system, given, *action, slot_word(who)))
         }
     }
 }
@@ -130,36 +157,53 @@ fn given_in(place: &Place) -> Option<&str>
 }
 
 // Reads the configuration of a command, and carries the command out.
-fn run_asked<M: Machine>(alloc: Global, m: &mut M, run: &Run) -> Result<Report, NoMemory>
-    ensures ended { Ended M.tells (asked_plan (M.past m.old) (M.past m.new) (Some (asked.Run run.now))) (M.past m.old) (M.past m.new) result }
-    ensures texts { IfOk result (HasTexts (Some (asked.Run run.now))) }
-    ensures counts { OutcomeCounted (M.faults m.old) (M.faults m.new) (M.wants m.old) (M.wants m.new) (outcome_in result) }
+fn run_asked<M: Machine, O: Sink>(alloc: Global, m: &mut M, run: &Run, out: &mut O) -> Ran
+    ensures runs { let asks = Some (asked.Run run.now) in
+        let plan = asked_plan (M.past m.old) (M.past m.new) asks in
+        RunsBy M.tells plan (HasTexts asks) (HasLines asks) (M.past m.old) (M.past m.new) (O.shown out.old) (O.shown out.new) result }
+    ensures counts { OutcomeCounted (M.faults m.old) (M.faults m.new) (M.wants m.old) (M.wants m.new) (outcome_in result.report) }
 {
     let path = run.place.conf_path();
     match load_system(alloc, m, path) {
-        Ok(system) => run_command(alloc, m, &system, given_in(&run.place), &run.command),
-        Err(Stop::Refused(refusal)) => no_system_report(alloc, path, refusal),
-        Err(Stop::Outside(kind)) => outside(alloc, kind),
-        Err(Stop::NoMemory) => Err(NoMemory),
+        Ok(system) => run_command(alloc, m, &system, given_in(&run.place), &run.command, out),
+        Err(Stop::Refused(refusal)) => quiet(no_system_report(alloc, path, refusal)),
+        Err(Stop::Outside(kind)) => quiet(outside(alloc, kind)),
+        Err(Stop::NoMemory) => quiet(Err(NoMemory)),
     }
 }
 
 // Reads the words, and carries their command out.
-fn run<M: Machine>(alloc: Global, m: &mut M, words: &[Text]) -> Result<Report, NoMemory>
-    ensures ended { Ended M.tells (plan_of words.now (M.past m.old) (M.past m.new)) (M.past m.old) (M.past m.new) result }
-    ensures texts { IfOk result (HasTexts (command_of words.now)) }
-    ensures counts { OutcomeCounted (M.faults m.old) (M.faults m.new) (M.wants m.old) (M.wants m.new) (outcome_in result) }
+fn run<M: Machine, O: Sink>(alloc: Global, m: &mut M, words: &[Text], out: &mut O) -> Ran
+    ensures runs { let asks = command_of words.now in
+        let plan = plan_of words.now (M.past m.old) (M.past m.new) in
+        RunsBy M.tells plan (HasTexts asks) (HasLines asks) (M.past m.old) (M.past m.new) (O.shown out.old) (O.shown out.new) result }
+    ensures counts { OutcomeCounted (M.faults m.old) (M.faults m.new) (M.wants m.old) (M.wants m.new) (outcome_in result.report) }
 {
     match read_words(alloc, words) {
-        Ok(Some(Asked::Run(run))) => run_asked(alloc, m, &run),
-        Ok(Some(Asked::Help)) => help_report(alloc),
-        Ok(None) => usage_report(alloc),
-        Err(stop) => Err(stop),
+        Ok(Some(Asked::Run(run))) => run_asked(alloc, m, &run, out),
+        Ok(Some(Asked::Help)) => quiet(help_report(alloc)),
+        Ok(None) => quiet(usage_report(alloc)),
+        Err(stop) => quiet(Err(stop)),
     }
 }
 
+// Puts what is left of a report, and answers whether all is whole.
+fn tell_rest<O: Sink, E: Sink>(
+    out: &mut O,
+    err: &mut E,
+    whole: bool,
+    text_out: &[u8],
+    text_err: &[u8],
+) -> bool
+    ensures { TellsRest (O.shown out.old, O.shown out.new) (E.shown err.old, E.shown err.new) whole text_out.now text_err.now result }
+{
+    let out_whole = say(out, whole, text_out);
+    let err_whole = say(err, true, text_err);
+    out_whole && err_whole
+}
+
 /// Runs the program on its words: does what they ask for on the machine, and puts what there is to
-/// say on the two sinks, by one put each at most.
+/// say on the two sinks, by one put each at most; the notes of an install are put as they come.
 pub fn rauc<M: Machine, O: Sink, E: Sink>(
     alloc: Global,
     words: &[Text],
@@ -172,16 +216,23 @@ pub fn rauc<M: Machine, O: Sink, E: Sink>(
     ensures stands_a_stop { StandsAStop M.tells words.now (M.past machine.old, M.past machine.new) }
     ensures has_cause { HasCause M.tells words.now (M.past machine.old, M.past machine.new) (M.faults machine.old, M.faults machine.new) (M.wants machine.old, M.wants machine.new) result.outcome }
 {
-    match run(alloc, machine, words) {
+    let Ran { report, whole } = run(alloc, machine, words, out);
+    match report {
         Ok(report) => {
-            let told = tell(out, err, report.out.as_slice(), report.err.as_bytes());
+            let told = tell_rest(
+                out,
+                err,
+                whole,
+                report.out.as_slice(),
+                report.err.as_bytes(),
+            );
             Finish {
                 outcome: report.outcome,
                 told,
             }
         }
         Err(_) => {
-            let told = tell(out, err, &[], "rauc: out of memory\n".as_bytes());
+            let told = tell_rest(out, err, whole, &[], "rauc: out of memory\n".as_bytes());
             Finish {
                 outcome: Outcome::NoMemory,
                 told,

@@ -30,7 +30,8 @@ no_extras = record { output_format = false; socket = false; connections = false;
 -- the commands: each with its name, its positionals from the fewest to the most, and the options that it allows
 abbrev pub command_rows : List (Text × CommandRow)
 command_rows =
-    (codes "write-slot", record { kind = kind.WriteSlot; fewest = 2; most = 2; allowed = no_extras })
+    (codes "install", record { kind = kind.Install; fewest = 1; most = 1; allowed = record no_extras { ignore_compatible = true } })
+    ∷ (codes "write-slot", record { kind = kind.WriteSlot; fewest = 2; most = 2; allowed = no_extras })
     ∷ (codes "info", record { kind = kind.Info; fewest = 1; most = 1; allowed = record no_extras { output_format = true } })
     ∷ (codes "status", record { kind = kind.Status; fewest = 0; most = 0; allowed = record no_extras { output_format = true; detailed = true } })
     ∷ (codes "status", record { kind = kind.Mark; fewest = 1; most = 2; allowed = no_extras }) ∷ []
@@ -46,6 +47,10 @@ row_if row count = if has_count count row then Some row else None
 -- the row of a command by its name and by how many positionals follow
 abbrev pub command_row : Text → ℕ → Option CommandRow
 command_row name count = option_map (λ row. row.1) (find (λ row. bytes_eq name row.0 && has_count count row.1) command_rows)
+
+-- `install BUNDLE`
+abbrev pub install_command : Option Text → Bool → Option Command
+install_command first ignored = option_map (λ bundle. command.Install bundle ignored) first
 
 -- `write-slot SLOT IMAGE`
 abbrev pub write_slot_command : Option Text → Option Text → Option Command
@@ -81,6 +86,7 @@ mark_command first second = option_map (λ act. command.Mark act second) (option
 
 -- each command from its positionals and its options
 abbrev pub build : CommandKind → Option Text → Option Text → Extras → Option Command
+build kind.Install first second extras = install_command first extras.ignore_compatible
 build kind.WriteSlot first second extras = write_slot_command first second
 build kind.Info first second extras = info_command first extras.output_format
 build kind.Status first second extras = status_command extras.output_format extras.detailed

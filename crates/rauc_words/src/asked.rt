@@ -31,15 +31,33 @@ impl Place {
 /// A command with its values, of which none is empty or has a NUL.
 #[derive(Debug, Drop)]
 pub enum Command {
+    /// Installs the bundle at a path, also one that is for another system where `ignore_compatible`
+    /// says so.
+    Install {
+        bundle: Text,
+        ignore_compatible: bool,
+    },
     /// Writes the image at a path into the slot of this name.
-    WriteSlot { slot: Text, image: Text },
+    WriteSlot {
+        slot: Text,
+        image: Text,
+    },
     /// Tells what the manifest of the bundle at a path says.
-    Info { bundle: Text, form: Form },
+    Info {
+        bundle: Text,
+        form: Form,
+    },
     /// Tells what is booted and in what state the slots are, and what the status file has of them where
     /// `detailed` says so.
-    Status { form: Form, detailed: bool },
+    Status {
+        form: Form,
+        detailed: bool,
+    },
     /// Marks a slot: the one that the word means, or the booted one where there is no word.
-    Mark { action: Action, who: Option<Text> },
+    Mark {
+        action: Action,
+        who: Option<Text>,
+    },
 }
 
 /// The slot that is marked, as a word: the one that is given, or `booted`.

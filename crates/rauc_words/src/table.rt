@@ -1,5 +1,5 @@
 ghost use Rattle.std.specs.Prelude.{◌≡◌, IfOk};
-ghost use Rattle.rauc_words.specs.Table.{action_of, are_allowed, are_usable, build, command_in, command_of, command_row, extra_names, form_of, info_command, is_usable, mark_command, positional_count, request_in, row_if, status_command, write_slot_command};
+ghost use Rattle.rauc_words.specs.Table.{action_of, are_allowed, are_usable, build, command_in, command_of, command_row, extra_names, form_of, info_command, install_command, is_usable, mark_command, positional_count, request_in, row_if, status_command, write_slot_command};
 
 use crate::command_line::{CommandLine, Extras, Positionals, parse};
 use crate::{Asked, Command, Run};
@@ -20,6 +20,7 @@ pub struct ExtraNames {
 /// The commands that there are.
 #[derive(Clone, Copy)]
 pub enum CommandKind {
+    Install,
     WriteSlot,
     Info,
     Status,
@@ -42,6 +43,16 @@ const NO_EXTRAS: ExtraNames = ExtraNames {
     connections: false,
     ignore_compatible: false,
     detailed: false,
+};
+
+const INSTALL: CommandRow = CommandRow {
+    kind: CommandKind::Install,
+    fewest: 1,
+    most: 1,
+    allowed: ExtraNames {
+        ignore_compatible: true,
+        ..NO_EXTRAS
+    },
 };
 
 const WRITE_SLOT: CommandRow = CommandRow {
@@ -95,12 +106,24 @@ fn command_row(name: &str, count: usize) -> Option<CommandRow>
     ensures { result ≡ command_row name.now count }
 {
     match name {
+        "install" => row_if(INSTALL, count),
         "write-slot" => row_if(WRITE_SLOT, count),
         "info" => row_if(INFO, count),
         "status" if count == 0 => Some(STATUS),
         "status" => row_if(MARK, count),
         _ => None,
     }
+}
+
+// `install BUNDLE`.
+fn install_command(first: Option<Text>, ignore_compatible: bool) -> Option<Command>
+    ensures { result ≡ install_command first ignore_compatible }
+{
+    let bundle = first?;
+    Some(Command::Install {
+        bundle,
+        ignore_compatible,
+    })
 }
 
 // `write-slot SLOT IMAGE`.
@@ -177,6 +200,7 @@ fn build(
     ensures { result ≡ build kind first second extras.now }
 {
     match kind {
+        CommandKind::Install => install_command(first, extras.ignore_compatible),
         CommandKind::WriteSlot => write_slot_command(first, second),
         CommandKind::Info => info_command(first, &extras.output_format),
         CommandKind::Status => status_command(&extras.output_format, extras.detailed),

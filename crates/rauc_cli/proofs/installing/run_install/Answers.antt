@@ -1,0 +1,8 @@
+use Rattle.std.specs.Prelude.{option_map}
+use Rattle.rauc_cli.specs.Plans.{request_of}
+use Rattle.rauc_cli.proofs.Installs.{runs_asked}
+use Rattle.rauc_cli.proofs.installing.run_install.Goals as goal
+
+pub returns-in-Ok-clause-runs : goal.returns-in-Ok-clause-runs
+returns-in-Ok-clause-runs g c =
+    runs_asked _ _ c.in-Ok.asks.request (request_of (option_map (λ name. name.now) c.args.given) c.args.bundle.now c.args.ignore_compatible) c.in-Ok.asks.last _ _ _ _ c.install_noting-told.result c.install_report.result c.in-Ok.ensures.request c.in-Ok.ensures.last c.install_noting-told.ensures.told c.install_noting-told.ensures.done c.install_noting-told.ensures.untouched c.install_noting-told.ensures.fails c.install_report.ensures
