@@ -19,6 +19,7 @@ build/%: $(sources)
 
 demo: $(program)
 	@bash demo/write_slot.sh $(program)
+	@bash demo/install.sh $(program)
 
 bench: $(program) build/hash_file build/message_speed
 	@bash bench/write_slot.sh $(program)

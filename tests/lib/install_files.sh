@@ -53,8 +53,8 @@ add_hooks() {
   add_lines '' '[hooks]' filename=hook
 }
 
-# grub: makes grub-editenv in the folder `bin`, which puts its words into `ran`, and runs the program in
-# `tools`. That is the real one where it is installed; else it keeps the variables as lines in the file. It
+# grub [LINE..]: makes grub-editenv in the folder `bin`, which puts its words into `ran`, does these lines of
+# sh, and runs the program in `tools`. That is the real one where it is installed; else that of `plain_grub`. It
 # has to be called before `bin` is looked into for programs.
 grub() {
   mkdir -p bin tools
@@ -62,7 +62,24 @@ grub() {
     ln -sf "$(command -v grub-editenv)" tools/grub-editenv
   else
     echo "grub-editenv is missing (Debian's package grub-common has it): a program in sh stands for it"
-    cat > tools/grub-editenv << 'PROGRAM'
+    plain_grub
+  fi
+  {
+    echo '#!/bin/sh'
+    echo "scratch='$scratch'"
+    echo 'echo "grub-editenv${*:+ $*}" >> "$scratch/ran"'
+    [ $# = 0 ] || printf '%s\n' "$@"
+    echo 'exec "$scratch/tools/grub-editenv" "$@"'
+  } > bin/grub-editenv
+  chmod 755 bin/grub-editenv
+}
+
+# plain_grub: the program in `tools` is one of sh, which keeps the variables as lines of the file, and puts a
+# whole new file in its place.
+plain_grub() {
+  mkdir -p tools
+  rm -f tools/grub-editenv
+  cat > tools/grub-editenv << 'PROGRAM'
 #!/bin/sh
 file=$1
 case $2 in
@@ -70,22 +87,16 @@ case $2 in
   list) cat "$file" ;;
   set)
     shift 2
+    cat "$file" > "$file.new"
     for pair in "$@"; do
-      grep -v "^${pair%%=*}=" "$file" > "$file.new"
+      sed -i "/^${pair%%=*}=/d" "$file.new"
       printf '%s\n' "$pair" >> "$file.new"
-      mv "$file.new" "$file"
     done
+    mv "$file.new" "$file"
     ;;
 esac
 PROGRAM
-    chmod 755 tools/grub-editenv
-  fi
-  cat > bin/grub-editenv << PROGRAM
-#!/bin/sh
-echo "grub-editenv\${*:+ \$*}" >> '$scratch/ran'
-exec '$scratch/tools/grub-editenv' "\$@"
-PROGRAM
-  chmod 755 bin/grub-editenv
+  chmod 755 tools/grub-editenv
 }
 
 # grub_has VARIABLE..: the block of GRUB has these variables and no others.
