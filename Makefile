@@ -23,6 +23,7 @@ demo: $(program)
 
 bench: $(program) build/hash_file build/message_speed
 	@bash bench/write_slot.sh $(program)
+	@bash bench/install.sh $(program)
 	@bash bench/configuration.sh $(program)
 	@bash bench/manifest.sh $(program)
 	@bash bench/status.sh $(program)
