@@ -830,5 +830,43 @@ has said_err
 activated
 record 3 "$abc" 1 1
 
+# ---- memory, and system calls on the image and the device
+
+# image_of BYTES: all as it is at first, with an image so long and slots of this length.
+image_of() {
+  anew
+  slots "$1"
+  install_conf
+  begin_bundle Test 2
+  head -c "$1" /dev/urandom > bundle/r.img
+  add_image rootfs r.img
+}
+
+# resident: the largest resident memory of an install and of the programs that it runs, in KiB.
+resident() {
+  /usr/bin/time -f %M "$program" install --override-boot-slot=A -c c bundle 2>&1 > said_out | tail -n 1
+}
+
+about='memory and system calls'
+if [ -x /usr/bin/time ]; then
+  image_of 3
+  small=$(resident)
+  image_of 4194304
+  large=$(resident)
+  activated
+  if [ "$large" -lt $((small + 1024)) ]; then pass; else fail "$large KiB resident for 4 MiB, and $small for 3 bytes"; fi
+else
+  echo "skipped: resident memory, since /usr/bin/time is missing (Debian's package time has it)"
+fi
+if strace -o /dev/null true 2> /dev/null; then
+  image_of 4194304
+  strace -qq -o calls -P "$point/r.img" -P "$scratch/b" "$program" install --override-boot-slot=A -c c bundle > said_out
+  activated
+  calls=$(($(wc -l < calls)))
+  if [ "$calls" -gt 128 ] && [ "$calls" -le $((3 * 64)) ]; then pass; else fail "$calls system calls for 64 pieces"; fi
+else
+  echo "skipped: system calls, since strace is missing or cannot trace here"
+fi
+
 printf '%s passed, %s failed\n' "$passed" "$failed"
 [ "$failed" = 0 ]
