@@ -67,17 +67,18 @@ _rauc() {
     case $command in info | status) _rauc_offer readable shell ;; esac
   elif [ -n "$options" ] && [[ $word == -* ]]; then
     _rauc_offer -c --conf --override-boot-slot -h --help
+    [ "$command" = install ] && _rauc_offer --ignore-compatible
     [ "$command" = info ] && _rauc_offer --output-format
     # A mark allows neither of the two.
     [ "$command" = status ] && [ ${#positionals[@]} = 1 ] && _rauc_offer --output-format --detailed
   elif [ ${#positionals[@]} = 0 ]; then
-    _rauc_offer status write-slot info
+    _rauc_offer install status write-slot info
   elif [ "$command" = write-slot ] && [ ${#positionals[@]} = 1 ]; then
     mapfile -t names < <(_rauc_slots "$conf")
     _rauc_offer "${names[@]}"
   elif [ "$command" = write-slot ] && [ ${#positionals[@]} = 2 ]; then
     _rauc_files
-  elif [ "$command" = info ] && [ ${#positionals[@]} = 1 ]; then
+  elif [[ $command == @(install|info) ]] && [ ${#positionals[@]} = 1 ]; then
     _rauc_bundles
   elif [ "$command" = status ] && [ ${#positionals[@]} = 1 ]; then
     _rauc_offer mark-good mark-bad mark-active

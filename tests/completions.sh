@@ -50,11 +50,13 @@ offers() {
   fi
 }
 
-offers $'status\nwrite-slot\ninfo' ''
+offers $'install\nstatus\nwrite-slot\ninfo' ''
 offers status st
 offers write-slot wri
-offers info in
-offers '' install
+offers $'install\ninfo' in
+offers install ins
+offers info inf
+offers '' service
 offers $'-c\n--conf\n--override-boot-slot\n-h\n--help' -
 offers $'--conf' --c
 offers --override-boot-slot write-slot --o
@@ -87,11 +89,30 @@ offers shell info --output-format = s
 offers readable info --output-format r
 offers new.raucb info --output-format = shell n
 offers new.raucb --output-format shell info n
+offers new.raucb install n
+offers 'one with blanks.raucb' -c c install one
+offers bundles install b
+offers bundles/old.raucb install bundles/
+offers '' install sys
+offers '' install new.raucb ''
+offers $'-c\n--conf\n--override-boot-slot\n-h\n--help\n--ignore-compatible' install -
+offers --ignore-compatible install new.raucb --ig
+offers new.raucb install --ignore-compatible n
+offers new.raucb --ignore-compatible install n
+offers $'A\nB\nrootfs.0\nrootfs.1' -c c install --override-boot-slot = ''
+offers new.raucb -c c --override-boot-slot = A install n
+offers '' install --ou
+offers '' install --d
+offers '' install --output-format = ''
+offers '' info --ig
+offers '' write-slot --ig
+offers '' status --ig
+offers new.raucb -- install n
 offers '' write-slot --ou
 offers '' write-slot --output-format = ''
 offers '' --output-format = ''
 offers '' -- -
-offers $'status\nwrite-slot\ninfo' -- ''
+offers $'install\nstatus\nwrite-slot\ninfo' -- ''
 offers $'mark-good\nmark-bad\nmark-active' -c c status ''
 offers mark-active status mark-a
 offers $'booted\nother\nrootfs.0\nrootfs.1' -c c status mark-good ''
