@@ -1,5 +1,5 @@
 // Children.
-use crate::paths::Deed::IsGone;
+use crate::paths::Deed::Has;
 use crate::steps::Place::{At, New};
 use crate::steps::Step::{Beside, Ends, Piece, Puts, Refused, Write};
 use crate::steps::{Case, DONE, Trace, Trouble, Watch, first_wrong, first_wrong_watched};
@@ -203,14 +203,17 @@ static WATCHED: [Watch<'static>; 3] = [
         },
         Trace::NoChild,
     ),
-    // a child of which one stream cannot be read is killed before it makes its file
+    // a child of which one stream cannot be read goes on, and is waited for: it has made its file
     (
         Trouble::Pipe(1),
         Case {
             place: New("no-out", ""),
             steps: &[
-                Refused("sh", &["-c", "exec 2>&-; sleep 1; : >\"$0.late\"", PATH]),
-                Beside(".late", IsGone),
+                Refused(
+                    "sh",
+                    &["-c", "exec 2>&-; sleep 1; echo done >\"$0.late\"", PATH],
+                ),
+                Beside(".late", Has("done\n")),
             ],
         },
         Trace::Child,
@@ -220,8 +223,8 @@ static WATCHED: [Watch<'static>; 3] = [
         Case {
             place: New("no-err", ""),
             steps: &[
-                Refused("sh", &["-c", "sleep 1; : >\"$0.late\"", PATH]),
-                Beside(".late", IsGone),
+                Refused("sh", &["-c", "sleep 1; echo done >\"$0.late\"", PATH]),
+                Beside(".late", Has("done\n")),
             ],
         },
         Trace::Child,

@@ -155,7 +155,8 @@ fn exit_of(status: ExitStatus, out: Front, err: Front) -> Exit
 }
 
 // Reads both outputs of a child at once, since it may fill the one while the other is waited for, and
-// waits for its end. Where an output cannot be read the child is killed.
+// waits for its end. Where an output cannot be read its pipe is closed, and the child goes on: one that
+// is killed may leave half of what it was to change, as a block of boot variables that it has emptied.
 fn finish<R: Threads>(
     rt: &R,
     mut started: process::Child<SystemProcess>,
@@ -164,13 +165,7 @@ fn finish<R: Threads>(
     ensures { IfOk result IsKept }
 {
     let err = keep_front(readers.err, readers.err_room);
-    if err.is_err() {
-        let _ = started.kill();
-    }
     let out = readers.out.join(rt);
-    if out.is_none() {
-        let _ = started.kill();
-    }
     match (started.wait(), out, err) {
         (Ok(status), Some(out), Ok(err)) => Ok(exit_of(status, out, err)),
         _ => Err(CallStop::Failed),
