@@ -56,10 +56,10 @@ after_same f b [] book = refl
 after_same f b (s ∷ steps) book = after_same f b steps (changed f s book)
 
 begun_same : (c : Configuration) (f : FactsContent) (b : List RecordContent) (s : Step) (a z : Past) → Begun c (with f b) b s a z → Begun c f b s a z
-begun_same c f b s a z h = record { part = h.part; keeps = h.keeps }
+begun_same c f b s a z h = record { part = h.part; keeps = h.keeps; reads = h.reads }
 
 did_same : (c : Configuration) (f : FactsContent) (b : List RecordContent) (s : Step) (a z : Past) → Did c (with f b) b s a z → Did c f b s a z
-did_same c f b s a z h = record { begun = begun_same c f b s a z h.begun; after = h.after; marks = h.marks }
+did_same c f b s a z h = record { begun = begun_same c f b s a z h.begun; after = h.after; marks = h.marks; reads = h.reads }
 
 cause_same : (c : Configuration) (f : FactsContent) (b : List RecordContent) (s : Step) (a z : Past) (stop : Stop InstallRefusal) → StepCause c (with f b) s (world_now a) (world_now z) stop → StepCause c f s (world_now a) (world_now z) stop
 cause_same c f b (step.Put job put) a z (Refused why) h = record { found = h.found; written = h.written; other = h.other; is = h.is }

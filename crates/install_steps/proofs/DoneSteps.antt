@@ -1,5 +1,5 @@
 -- A bootname was marked, as a step.
-use Rattle.std.proofs.Common.{◌≡◌, ℕ, Bool, List, Option, Result, Ok, Err, IsTrue, sym, subst}
+use Rattle.std.proofs.Common.{◌≡◌, inl, ℕ, Bool, List, Option, Result, Ok, Err, IsTrue, sym, subst}
 use Rattle.std.specs.Prelude.{⊤, OnOk}
 use Rattle.boot_commands.specs.Effects.{commands_of}
 use Rattle.boot_commands.specs.declared.command.Mark.{Mark}
@@ -28,12 +28,12 @@ mark_part c m name a z led =
 
 module _ (t : Bool) (c : Configuration) (f : FactsContent) (root : ℕ) (a z : Past) where
   begun_bad : (result : Result ⊤ (Stop InstallRefusal)) → BootMarks t c mark.Bad (bootname_of c root) a z result → IsTrue t → Begun c f f.book (step.Bad root) a z
-  begun_bad result marks told = record { part = mark_part c mark.Bad (bootname_of c root) a z (marks.leads told); keeps = marks.keeps told }
+  begun_bad result marks told = record { part = mark_part c mark.Bad (bootname_of c root) a z (marks.leads told); keeps = marks.keeps told; reads = inl tt }
 
   bad : (result : Result ⊤ (Stop InstallRefusal)) → BootMarks t c mark.Bad (bootname_of c root) a z result → (IsTrue t → OnOk result (LeavesDown c (bootname_of c root) a z)) → DoesStep t c f (step.Bad root) a z (without_image result)
   bad (Ok x) marks down = record {
     begun = begun_bad (Ok x) marks;
-    did = λ told. record { begun = begun_bad (Ok x) marks told; after = marks.answers told; marks = (marks.leaves told, down told) };
+    did = λ told. record { begun = begun_bad (Ok x) marks told; after = marks.answers told; marks = (marks.leaves told, down told); reads = tt };
     cause = λ told. tt;
     fails = marks.fails;
   }
@@ -42,12 +42,12 @@ module _ (t : Bool) (c : Configuration) (f : FactsContent) (root : ℕ) (a z : P
   bad (Err NoMemory) marks down = record { begun = begun_bad (Err NoMemory) marks; did = λ told. tt; cause = λ told. tt; fails = marks.fails }
 
   begun_primary : (result : Result ⊤ (Stop InstallRefusal)) → BootMarks t c mark.Primary (bootname_of c root) a z result → IsTrue t → Begun c f f.book (step.Primary root) a z
-  begun_primary result marks told = record { part = mark_part c mark.Primary (bootname_of c root) a z (marks.leads told); keeps = marks.keeps told }
+  begun_primary result marks told = record { part = mark_part c mark.Primary (bootname_of c root) a z (marks.leads told); keeps = marks.keeps told; reads = inl tt }
 
   primary : (result : Result ⊤ (Stop InstallRefusal)) → BootMarks t c mark.Primary (bootname_of c root) a z result → DoesStep t c f (step.Primary root) a z (without_image result)
   primary (Ok x) marks = record {
     begun = begun_primary (Ok x) marks;
-    did = λ told. record { begun = begun_primary (Ok x) marks told; after = marks.answers told; marks = marks.leaves told };
+    did = λ told. record { begun = begun_primary (Ok x) marks told; after = marks.answers told; marks = marks.leaves told; reads = tt };
     cause = λ told. tt;
     fails = marks.fails;
   }

@@ -1,5 +1,5 @@
 -- What the status file notes of an install.
-use Rattle.std.specs.Prelude.{◌≡◌, ◌<◌, ℕ, ℤ, Bool, IsTrue, List, length, Option, Some, None, Result, Err, OnOk, ⊤}
+use Rattle.std.specs.Prelude.{◌≡◌, ◌<◌, ◌⊎◌, ℕ, ℤ, Bool, IsTrue, List, length, Option, Some, None, Result, Err, OnOk, ⊤}
 use Rattle.machine.specs.Past.{Always, Fails, Past, world_now}
 use Rattle.machine.specs.Stops.{stop_fault}
 use Rattle.machine.specs.declared.stops.Stop.{Stop}
@@ -8,7 +8,7 @@ use Rattle.slot_status.specs.Refusals.{activate_refusal, finish_refusal}
 use Rattle.system_conf.specs.Configuration.{Configuration}
 use Rattle.install_facts.specs.Facts.{FactsContent}
 use Rattle.install_facts.specs.declared.refusal.InstallRefusal.{InstallRefusal}
-use Rattle.install_steps.specs.Steps.{EitherOf, with_book}
+use Rattle.install_steps.specs.Steps.{BookReads, EitherOf, with_book}
 use Rattle.install_facts.specs.Facts.{facts_content}
 use Rattle.install_facts.specs.declared.facts.Facts.{Facts}
 use Rattle.install_facts.specs.declared.refusal.InstallRefusal.TheVariants.{Status}
@@ -48,8 +48,10 @@ CanNote f s = (seconds : ℤ) → f.now ≡ Some seconds → CanNoteAt f s secon
 pub record ChangesBook (s : Step) (old new : Facts) : Type 0 where
   pub is : facts_content new ≡ record (facts_content old) { book = changed (facts_content old) s old.book }
 
--- where told: the status file is the one before or has the text of this book, and it has that where it is done
+-- where told: the status file is the one before or has the text of this book, and it has that where it is done; the text is read again as this book, or nothing was done
 pub record NotesBook (tells : Bool) (c : Configuration) (book : List RecordContent) (old new : Past) (result : Result ⊤ (Stop InstallRefusal)) : Type 0 where
   pub moments : IsTrue tells → Always old new (EitherOf (world_now old) (with_book c book (world_now old)))
   pub after : IsTrue tells → OnOk result (world_now new ≡ with_book c book (world_now old))
+  pub reads : BookReads c book ⊎ (IsTrue tells → new ≡ old)
+  pub reads_done : OnOk result (BookReads c book)
   pub fails : Fails tells old new (stop_fault result)

@@ -1,5 +1,5 @@
 -- What a step leaves, at each moment and at its end.
-use Rattle.std.specs.Prelude.{◌≡◌, ◌⊎◌, ℕ, ℤ, List, [], ◌∷◌, slice_get, Option, option_and_then, option_map, Ok, unwrap_or}
+use Rattle.std.specs.Prelude.{◌≡◌, ◌⊎◌, ℕ, ℤ, List, [], ◌∷◌, slice_get, Option, option_and_then, option_map, Some, Ok, unwrap_or}
 use Rattle.std.specs.Option.{option_map_or}
 use Rattle.keyfile.specs.Groups.{Text}
 use Rattle.boot_model.specs.Vars.{Variables}
@@ -26,7 +26,7 @@ use Rattle.raw_writer.specs.declared.put.PutJob.{PutJob}
 use Rattle.slot_status.specs.Changes.{activated, begun, finished}
 use Rattle.slot_status.specs.Records.{RecordContent}
 use Rattle.slot_status.specs.Texts.{book_text}
-use Rattle.status_file.specs.Status.{names_in}
+use Rattle.status_file.specs.Status.{book_in, names_in}
 use Rattle.system_conf.specs.Configuration.{Configuration}
 use Rattle.install_facts.specs.Facts.{FactsContent, image_of}
 use Rattle.install_plan.specs.declared.step.Step.{Step}
@@ -65,6 +65,17 @@ changed f s book = option_map_or (λ seconds. changed_at_time f s seconds book) 
 
 abbrev pub with_book : Configuration → List RecordContent → World → World
 with_book c book w = option_map_or (λ path. with_file w path (book_text (names_in c.slots) book)) c.status_file w
+
+-- the text of a book is read again as that book, where there is a status file
+abbrev pub BookReads : Configuration → List RecordContent → Type 0
+BookReads c book = (path : Text) → c.status_file ≡ Some path → book_in c.slots (Some (book_text (names_in c.slots) book)) ≡ book
+
+-- so is the text that a step notes
+abbrev pub StepReads : Configuration → FactsContent → List RecordContent → Step → Type 0
+StepReads c f book (step.Begin slot) = BookReads c (changed f (step.Begin slot) book)
+StepReads c f book (step.Done job) = BookReads c (changed f (step.Done job) book)
+StepReads c f book (step.Activated root) = BookReads c (changed f (step.Activated root) book)
+StepReads c f book other = Unit {0}
 
 -- ---- what a step leaves at each moment of it
 
@@ -142,12 +153,15 @@ MarksName c other a z = Unit {0}
 pub record Begun (c : Configuration) (f : FactsContent) (book : List RecordContent) (s : Step) (a z : Past) : Type 0 where
   pub part : Always a z (Part a.boot c f book s (world_now a))
   pub keeps : KeepsNames c s a z
+  -- the text that is noted is read again, or none was put
+  pub reads : StepReads c f book s ⊎ (z ≡ a)
 
 -- the step is done
 pub record Did (c : Configuration) (f : FactsContent) (book : List RecordContent) (s : Step) (a z : Past) : Type 0 where
   pub begun : Begun c f book s a z
   pub after : After c f book s (world_now a) (world_now z)
   pub marks : MarksName c s a z
+  pub reads : StepReads c f book s
 
 -- all steps are done, from a past a with this book
 abbrev pub Run : Configuration → FactsContent → List RecordContent → List Step → Past → Past → Type 0
