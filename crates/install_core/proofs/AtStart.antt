@@ -23,7 +23,7 @@ use Rattle.install_steps.specs.Doing.{CanDo}
 use Rattle.install_steps.specs.Noting.{CanFinish}
 use Rattle.install_steps.specs.Steps.{bootname_of, slot_at}
 use Rattle.install_core.proofs.NoneRefused.{none_at}
-use Rattle.install_core.proofs.WhatActs.{IsJobSlot, IsStep, IsTargetRoot}
+use Rattle.install_plan.proofs.WhatActs.{IsJobSlot, IsStep, IsTargetRoot}
 
 -- ---- bootnames
 

@@ -10,7 +10,7 @@ use Rattle.install_steps.specs.Noting.{CanFinish}
 use Rattle.install_steps.specs.Progress.{CanDoAll, facts_after}
 use Rattle.install_steps.specs.Steps.{changed, slot_at}
 use Rattle.install_core.proofs.Counts.{LeavesActivations, LeavesInstalls, activations_after, installs_after, length_after}
-use Rattle.install_core.proofs.Each.{Each, each_both}
+use Rattle.install_plan.proofs.Each.{Each, each_both}
 
 -- the two do not note the same
 abbrev pub Clear : Step → Step → Type 0

@@ -4,7 +4,7 @@ use Rattle.install_facts.specs.declared.report.Note.{Note}
 use Rattle.install_plan.specs.declared.step.Act.{Act}
 use Rattle.install_plan.specs.declared.step.Act.TheVariants.{Do, Tell}
 use Rattle.install_plan.specs.declared.step.Step.TheVariants as step
-use Rattle.install_core.proofs.Each.{Each, OfStep, each_append, each_weaker}
+use Rattle.install_plan.proofs.Each.{Each, OfStep, each_append, each_weaker}
 use Rattle.install_core.proofs.InTurn.{Clear}
 use Rattle.install_core.proofs.QuietSteps.{Later, Notes, OnceActs, Quiet, no_job_later, once_quiet, quiet_no_job, quiet_notes}
 

@@ -1,14 +1,9 @@
-pub mod Each
-pub mod Works
-pub mod NoteLengths
-pub mod WhatActs
 pub mod ListShort
 pub mod InMount
 pub mod ListSteady
 pub mod NoneRefused
 pub mod StatedSizes
 pub mod ListFits
-pub mod SlotsApart
 pub mod Counts
 pub mod InTurn
 pub mod RootsOnce

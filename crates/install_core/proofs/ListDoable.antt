@@ -7,11 +7,11 @@ use Rattle.install_plan.specs.Acts.{acts_of, steps_in}
 use Rattle.install_steps.specs.Doing.{CanDo}
 use Rattle.install_steps.specs.Progress.{CanDoAll}
 use Rattle.install_core.proofs.AtStart.{can_start}
-use Rattle.install_core.proofs.Each.{each_weaker}
+use Rattle.install_plan.proofs.Each.{each_weaker}
 use Rattle.install_core.proofs.InTurn.{in_turn}
 use Rattle.install_core.proofs.NotedOnce.{noted_once}
-use Rattle.install_core.proofs.SlotsApart.{classes_apart, slots_apart}
-use Rattle.install_core.proofs.WhatActs.{IsStep, steps_are}
+use Rattle.install_steps.proofs.SlotsApart.{classes_apart, slots_apart}
+use Rattle.install_plan.proofs.WhatActs.{IsStep, steps_are}
 
 -- each can be done at the start, and none takes that away from a later one
 pub list_doable : (system : System) (facts : Facts) → AreSound (system_configuration system) (facts_content facts)

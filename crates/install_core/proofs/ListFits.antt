@@ -21,10 +21,10 @@ use Rattle.install_plan.specs.declared.step.Step.{Step}
 use Rattle.install_plan.specs.declared.step.Step.TheVariants as step
 use Rattle.install_steps.specs.Doing.{PutFits, StepFits}
 use Rattle.install_steps.specs.Progress.{FitsAll}
-use Rattle.install_core.proofs.Each.{each_between, each_weaker}
+use Rattle.install_plan.proofs.Each.{each_between, each_weaker}
 use Rattle.install_core.proofs.NoneRefused.{none_at}
 use Rattle.install_core.proofs.StatedSizes.{accepted_unstated}
-use Rattle.install_core.proofs.WhatActs.{IsPut, IsStep, steps_are}
+use Rattle.install_plan.proofs.WhatActs.{IsPut, IsStep, steps_are}
 
 -- an answer that is no refusal is a size
 no_refusal : (at : ℕ) (file : ImageFile) (r : Result ℕ PutRefusal) → as_refused at file r ≡ None → (size : ℕ) × (r ≡ Ok size)

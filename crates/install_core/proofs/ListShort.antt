@@ -9,8 +9,8 @@ use Rattle.install_plan.specs.Acts.{acts_of, notes_in}
 use Rattle.install_plan.specs.declared.step.Act.{Act}
 use Rattle.install_plan.specs.declared.step.Act.TheVariants.{Do, Tell}
 use Rattle.install_steps.specs.Steady.{AreShort}
-use Rattle.install_core.proofs.Each.{OfNote, each_at, each_note, each_weaker}
-use Rattle.install_core.proofs.WhatActs.{IsAct, acts_are}
+use Rattle.install_plan.proofs.Each.{OfNote, each_at, each_note, each_weaker}
+use Rattle.install_plan.proofs.WhatActs.{IsAct, acts_are}
 
 -- a note is at most 279 bytes long
 abbrev IsShort : Note → Type 0

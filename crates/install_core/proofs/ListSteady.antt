@@ -15,9 +15,9 @@ use Rattle.install_plan.specs.Acts.{acts_of, steps_in}
 use Rattle.install_plan.specs.declared.step.Step.{Step}
 use Rattle.install_plan.specs.declared.step.Step.TheVariants as step
 use Rattle.install_steps.specs.Steady.{AllLeave, LeavesFile, PutsSteady, StaySteady}
-use Rattle.install_core.proofs.Each.{Each, each_at, each_weaker}
+use Rattle.install_plan.proofs.Each.{Each, each_at, each_weaker}
 use Rattle.install_core.proofs.InMount.{not_status, spared}
-use Rattle.install_core.proofs.WhatActs.{IsStep, steps_are}
+use Rattle.install_plan.proofs.WhatActs.{IsStep, steps_are}
 
 module _ (c : Configuration) (f : FactsContent) where
   -- each step leaves the images of the bundle alone

@@ -16,12 +16,12 @@ use Rattle.install_plan.specs.declared.step.Act.{Act}
 use Rattle.install_plan.specs.declared.step.Act.TheVariants.{Do, Tell}
 use Rattle.install_plan.specs.declared.step.Caller.TheVariants as caller
 use Rattle.install_plan.specs.declared.step.Step.TheVariants as step
-use Rattle.install_core.proofs.Each.{Each, OfStep, each_append, each_flat_map, each_from, each_if, each_map, each_range, each_weaker}
+use Rattle.install_plan.proofs.Each.{Each, OfStep, each_append, each_flat_map, each_from, each_if, each_map, each_range, each_weaker}
 use Rattle.install_core.proofs.InTurn.{Clear, Once}
 use Rattle.install_core.proofs.JobNoted.{OfJob, Splits, before, behind, job_notes, once_job}
 use Rattle.install_core.proofs.QuietSteps.{Later, NoJob, Notes, OnceActs, Quiet, no_job_later, notes_later, once_quiet, once_steps, quiet_no_job}
 use Rattle.install_core.proofs.RootsOnce.{Differ, roots_differ}
-use Rattle.install_core.proofs.Works.{is_work}
+use Rattle.install_plan.proofs.JobWork.{is_work}
 
 -- ---- the acts of a job
 

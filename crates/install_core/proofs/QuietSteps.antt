@@ -5,7 +5,7 @@ use Rattle.install_plan.specs.declared.step.Act.{Act}
 use Rattle.install_plan.specs.declared.step.Act.TheVariants.{Do, Tell}
 use Rattle.install_plan.specs.declared.step.Step.{Step}
 use Rattle.install_plan.specs.declared.step.Step.TheVariants as step
-use Rattle.install_core.proofs.Each.{Each, OfStep, each_from, each_step}
+use Rattle.install_plan.proofs.Each.{Each, OfStep, each_from, each_step}
 use Rattle.install_core.proofs.InTurn.{Clear, Once}
 
 -- ---- what steps note

@@ -5,7 +5,7 @@ use Rattle.std.proofs.lemmas.List.{reverse-append}
 use Rattle.system_conf.specs.Configuration.{Configuration}
 use Rattle.install_facts.specs.Facts.{FactsContent}
 use Rattle.install_plan.specs.Acts.{each_once, has_bootname, target_roots}
-use Rattle.install_core.proofs.Each.{Each, each_append, each_filter, each_passes, each_reverse, each_weaker}
+use Rattle.install_plan.proofs.Each.{Each, each_append, each_filter, each_passes, each_reverse, each_weaker}
 
 -- no number stands twice
 abbrev pub Differ : List ℕ → Type 0

@@ -1,2 +1,7 @@
 pub mod EachOnce
 pub mod Shape
+pub mod Each
+pub mod JobWork
+pub mod NoteLengths
+pub mod WhatActs
+pub mod ActKinds

@@ -1,3 +1,4 @@
+pub mod SlotsApart
 pub mod ActsDone
 pub mod BookNoted
 pub mod DoneSteps

@@ -29,21 +29,25 @@ unless_then : {A : Type 0} (b : Bool) (x : A) → cond b (Some x) None ≡ None 
 unless_then true x e = absurd (cc)
 unless_then false x e = refl
 
-unmapped : {A B : Type 0} (f : A → B) (o : Option A) → option_map f o ≡ None → o ≡ None
+pub unmapped : {A B : Type 0} (f : A → B) (o : Option A) → option_map f o ≡ None → o ≡ None
 unmapped f (Some x) e = absurd (cc)
 unmapped f None e = refl
 
-differ : (slots : List Slot) (i j : ℕ) (s t : Slot) → same_device slots ≡ None → slice_get slots i ≡ Some s → slice_get slots j ≡ Some t → i < j → bytes_eq s.device t.device ≡ false
-unfolding same_device
-differ slots i j s t none first second lt =
+-- no two slots make such a pair, where there is none
+pub pair_differs : (test : Slot → Slot → Bool) (slots : List Slot) (i j : ℕ) (s t : Slot) → first_pair test slots ≡ None → slice_get slots i ≡ Some s → slice_get slots j ≡ Some t → i < j → test s t ≡ false
+pair_differs test slots i j s t no_pair first second lt =
     let zero_on : 0 + j ≡ j = omega arith in
     let at_j : slice_get (enumerate_from 0 slots) j ≡ Some (j, t) = slice_get-from 0 slots j ∙ ap (option_map (λ x. (0 + j, x))) second ∙ ap (λ k. Some (k, t)) zero_on in
-    let no_pair : first_pair has_same_device slots ≡ None = unmapped _ (first_pair has_same_device slots) none in
-    let here : pair_with has_same_device slots (j, t) ≡ None = sym (ap (option_and_then (pair_with has_same_device slots)) at_j) ∙ first_none (pair_with has_same_device slots) (enumerate_from 0 slots) j no_pair in
-    let before : pair_if has_same_device t s ≡ None = sym (ap (option_and_then (pair_if has_same_device t)) (earlier slots j i lt ∙ first)) ∙ first_none (pair_if has_same_device t) (take j slots) i here in
-    unless_then (bytes_eq s.device t.device) _ before
+    let here : pair_with test slots (j, t) ≡ None = sym (ap (option_and_then (pair_with test slots)) at_j) ∙ first_none (pair_with test slots) (enumerate_from 0 slots) j no_pair in
+    let before : pair_if test t s ≡ None = sym (ap (option_and_then (pair_if test t)) (earlier slots j i lt ∙ first)) ∙ first_none (pair_if test t) (take j slots) i here in
+    unless_then (test s t) _ before
 
-order : (i j : ℕ) → (i ≡ j) ⊎ ((i < j) ⊎ (j < i))
+differ : (slots : List Slot) (i j : ℕ) (s t : Slot) → same_device slots ≡ None → slice_get slots i ≡ Some s → slice_get slots j ≡ Some t → i < j → bytes_eq s.device t.device ≡ false
+unfolding same_device
+differ slots i j s t none first second lt = pair_differs has_same_device slots i j s t (unmapped _ (first_pair has_same_device slots) none) first second lt
+
+-- one of two numbers is the other, or they have an order
+pub order : (i j : ℕ) → (i ≡ j) ⊎ ((i < j) ⊎ (j < i))
 order zero zero = inl refl
 order zero (suc j) = inr (inl (omega arith))
 order (suc i) zero = inr (inr (omega arith))

@@ -3,4 +3,4 @@ mod FreeRoots
 mod Listed
 mod Placing
 mod Ranges
-mod StateLemmas
+pub mod StateLemmas

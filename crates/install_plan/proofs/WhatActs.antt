@@ -23,9 +23,9 @@ use Rattle.install_plan.specs.declared.step.Act.{Act}
 use Rattle.install_plan.specs.declared.step.Act.TheVariants.{Do, Tell}
 use Rattle.install_plan.specs.declared.step.Step.{Step}
 use Rattle.install_plan.specs.declared.step.Step.TheVariants as step
-use Rattle.install_core.proofs.Each.{Each, OfStep, each_append, each_both, each_filter, each_flat_map, each_from, each_if, each_map, each_passes, each_range, each_reverse, each_step, each_weaker}
-use Rattle.install_core.proofs.NoteLengths.{formed_at, name_length, text_length}
-use Rattle.install_core.proofs.Works.{IsWork, is_work}
+use Rattle.install_plan.proofs.Each.{Each, OfStep, each_append, each_both, each_filter, each_flat_map, each_from, each_if, each_map, each_passes, each_range, each_reverse, each_step, each_weaker}
+use Rattle.install_plan.proofs.NoteLengths.{formed_at, name_length, text_length}
+use Rattle.install_plan.proofs.JobWork.{IsWork, is_work}
 
 -- a program is no boot program, and spares the mount point
 pub record IsRun (c : Configuration) (child : Child) : Type 0 where

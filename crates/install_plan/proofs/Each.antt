@@ -18,6 +18,11 @@ pub each_append : {X : Type 0} (P : X → Type 0) (xs ys : List X) → Each P xs
 each_append P [] ys front back = back
 each_append P (x ∷ xs) ys front back = (front.0, each_append P xs ys front.1 back)
 
+-- and of each of the two
+pub each_apart : {X : Type 0} (P : X → Type 0) (xs ys : List X) → Each P (xs ++ ys) → Each P xs × Each P ys
+each_apart P [] ys all = (tt, all)
+each_apart P (x ∷ xs) ys all = let rest = each_apart P xs ys all.1 in ((all.0, rest.0), rest.1)
+
 -- what follows from it
 pub each_weaker : {X : Type 0} (P Q : X → Type 0) → ((x : X) → P x → Q x) → (xs : List X) → Each P xs → Each Q xs
 each_weaker P Q each [] all = tt

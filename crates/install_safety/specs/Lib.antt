@@ -1,0 +1,3 @@
+pub mod Safe
+pub mod TrueRecords
+pub mod Lists
