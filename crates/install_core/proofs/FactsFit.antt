@@ -29,7 +29,7 @@ ok_one : {A : Type 0} (x y : A) → as_ok x ≡ as_ok y → x ≡ y
 ok_one x y e = cc
 
 -- where all of it gives an answer, so does its first part
-after_ok : {A B : Type 0} (o : Told A) (next : A → Told B) (b : B) → after o next ≡ Some (Ok b) → (a : A) × (o ≡ Some (Ok a)) × (next a ≡ Some (Ok b))
+pub after_ok : {A B : Type 0} (o : Told A) (next : A → Told B) (b : B) → after o next ≡ Some (Ok b) → (a : A) × (o ≡ Some (Ok a)) × (next a ≡ Some (Ok b))
 after_ok None next b e = absurd (cc)
 after_ok (Some (Err why)) next b e = absurd (cc)
 after_ok (Some (Ok a)) next b e = (a, refl, e)

@@ -48,13 +48,13 @@ spared_trans spares u v w uv vw = record {
 }
 
 -- what only runs such children leaves all that alone
-ran_untouched : (t : Bool) (c : Configuration) (children : List Child) (a b : Past) → OnlyRuns t (helper_spares c []) children a b → Untouched t c a b
+pub ran_untouched : (t : Bool) (c : Configuration) (children : List Child) (a b : Past) → OnlyRuns t (helper_spares c []) children a b → Untouched t c a b
 ran_untouched t c children a b only = record {
   all = λ told. always_weaker a b (LeftAlone (helper_spares c []) children (world_now a)) (IsSpared (helper_spares c []) (world_now a))
       (λ u left. record { writes = left.writes; lengths = left.lengths; disks = left.disks; pending = left.pending; files = left.files; vars = left.vars }) (only.all told);
 }
 
-untouched_join : (t : Bool) (c : Configuration) (a b d : Past) → Untouched t c a b → Untouched t c b d → Untouched t c a d
+pub untouched_join : (t : Bool) (c : Configuration) (a b d : Past) → Untouched t c a b → Untouched t c b d → Untouched t c a d
 untouched_join t c a b d ab bd = record {
   all = λ told.
       let left = ab.all told in
@@ -63,7 +63,7 @@ untouched_join t c a b d ab bd = record {
       (always_weaker b d (IsSpared (helper_spares c []) (world_now b)) (IsSpared (helper_spares c []) (world_now a)) (λ u h. spared_trans (helper_spares c []) (world_now a) (world_now b) u here h) (bd.all told));
 }
 
-untouched_same : (t : Bool) (c : Configuration) (a b d : Past) → (IsTrue t → d ≡ b) → Untouched t c a b → Untouched t c a d
+pub untouched_same : (t : Bool) (c : Configuration) (a b d : Past) → (IsTrue t → d ≡ b) → Untouched t c a b → Untouched t c a d
 untouched_same t c a b d same ab = record { all = λ told. (subst (λ (p : Past). Untouched t c a p) (sym (same told)) ab).all told }
 
 -- ---- a step is refused for a cause of its own

@@ -19,3 +19,7 @@ pub mod LeftUntouched
 pub mod AllDone
 pub mod FaultsTold
 pub mod UnmountCounts
+pub mod SafeSegments
+pub mod FactsTold
+pub mod CrashSafety
+pub mod CrashSafeLater

@@ -3,3 +3,4 @@ pub mod Course
 pub mod Untouched
 pub mod Done
 pub mod Faults
+pub mod CrashSafe

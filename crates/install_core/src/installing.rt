@@ -6,6 +6,7 @@ ghost use Rattle.install_facts.specs.Gathering.{Noted};
 ghost use Rattle.install_core.specs.Course as spec;
 ghost use Rattle.install_core.specs.Done.{DoneAtSuccess};
 ghost use Rattle.install_core.specs.Faults.{FaultTold, UnmountCounted};
+ghost use Rattle.install_core.specs.CrashSafe.{IsCrashSafe};
 ghost use Rattle.install_core.specs.Untouched.{LeavesUntouched};
 
 use crate::ending::{InstallEnd, Worked, end_of, mount_stop};
@@ -43,7 +44,11 @@ fn install_mounted<M: Machine, P: Report>(
 /// Clause `course`: what was done, in order, and the answer by it. Clause `done`: success is answered
 /// after all steps of the list alone. Clause `untouched`: after a refusal that comes before the first
 /// step, and after any answer without all facts, the devices of all slots, the boot variables and the
-/// status file are as they were, and were so at each moment. Clause `fails`: the first call that failed
+/// status file are as they were, and were so at each moment. Clause `crash_safe`: wherever the power
+/// stops, inside a write or a child too, each slot that is booted or active has kept its bytes; where
+/// the programs of the boot loader are honest, a target is booted next, once a write was begun, only
+/// while each slot that RAUC alone writes begins with its image, and a booted root that was good is
+/// good; and what the status file says of the slots is true. Clause `fails`: the first call that failed
 /// is told, but for the unmount's. Clause `unmount`: the count that rose where that failed or had no
 /// memory.
 pub fn install<M: Machine, P: Report>(
@@ -59,6 +64,7 @@ pub fn install<M: Machine, P: Report>(
         DoneAtSuccess M.tells c request.now (M.past m.old) result }
     ensures untouched { let c = system_configuration system.now in
         LeavesUntouched M.tells c request.now (M.past m.old) (M.past m.new) result }
+    ensures crash_safe { IsCrashSafe M.tells (system_configuration system.now) request.now (M.past m.old) (M.past m.new) }
     ensures fails { FaultTold M.tells (M.past m.old) (M.past m.new) result }
     ensures counts { StopCounted (M.faults m.old) (M.faults m.new) (M.wants m.old) (M.wants m.new) result.result }
     ensures unmount { UnmountCounted (M.faults m.old) (M.faults m.new) (M.wants m.old) (M.wants m.new) result.closing }

@@ -3,6 +3,7 @@ ghost use Rattle.machine.specs.Stops.{StopCounted};
 ghost use Rattle.system_conf.specs.Reads.{system_configuration};
 ghost use Rattle.install_core.specs.Done.{DoneAtSuccess};
 ghost use Rattle.install_core.specs.Faults.{FaultTold, UnmountCounted};
+ghost use Rattle.install_core.specs.CrashSafe.{IsCrashSafe};
 ghost use Rattle.install_core.specs.Untouched.{LeavesUntouched};
 ghost use Rattle.install_notes.specs.Lines.{Tells};
 
@@ -52,6 +53,7 @@ fn install_at<'a, M: Machine, O: Sink, K: Home>(
         DoneAtSuccess M.tells c request.now (M.past m.old) end.new }
     ensures untouched { let c = system_configuration system.now in
         LeavesUntouched M.tells c request.now (M.past m.old) (M.past m.new) end.new }
+    ensures crash_safe { IsCrashSafe M.tells (system_configuration system.now) request.now (M.past m.old) (M.past m.new) }
     ensures fails { FaultTold M.tells (M.past m.old) (M.past m.new) end.new }
     ensures counts { StopCounted (M.faults m.old) (M.faults m.new) (M.wants m.old) (M.wants m.new) end.new.result }
     ensures unmount { UnmountCounted (M.faults m.old) (M.faults m.new) (M.wants m.old) (M.wants m.new) end.new.closing }
@@ -78,6 +80,7 @@ pub fn install_noting<M: Machine, O: Sink>(
         DoneAtSuccess M.tells c request.now (M.past m.old) result.end }
     ensures untouched { let c = system_configuration system.now in
         LeavesUntouched M.tells c request.now (M.past m.old) (M.past m.new) result.end }
+    ensures crash_safe { IsCrashSafe M.tells (system_configuration system.now) request.now (M.past m.old) (M.past m.new) }
     ensures fails { FaultTold M.tells (M.past m.old) (M.past m.new) result.end }
     ensures counts { StopCounted (M.faults m.old) (M.faults m.new) (M.wants m.old) (M.wants m.new) result.end.result }
     ensures unmount { UnmountCounted (M.faults m.old) (M.faults m.new) (M.wants m.old) (M.wants m.new) result.end.closing }

@@ -1,7 +1,6 @@
 -- Reports behind lines that were put as they came.
-use Rattle.std.proofs.Common.{◌≡◌, ℕ, Bool, true, false, List, [], ◌∷◌, ◌++◌, Option, Some, None, Result, Ok, Err, IfOk, refl, sym, subst}
-use Rattle.std.proofs.lemmas.List.{append-nil}
-use Rattle.updater_text.specs.Sinks.{Put, Shown, WritesText}
+use Rattle.std.proofs.Common.{◌≡◌, ℕ, Bool, true, List, [], ◌∷◌, ◌++◌, Option, Some, None, Result, Ok, Err, IfOk, refl, sym, subst}
+use Rattle.updater_text.specs.Sinks.{Shown, WritesText}
 use Rattle.updater_text.specs.declared.stops.NoMemory.{NoMemory}
 use Rattle.install_notes.proofs.Texts.{text_more}
 use Rattle.machine.specs.Past.{Past}

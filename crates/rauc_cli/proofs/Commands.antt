@@ -1,11 +1,11 @@
 -- Each command, and what comes before it.
-use Rattle.std.proofs.Common.{◌≡◌, ◌≤◌, ℕ, ℤ, Bool, true, List, [], Option, Some, None, Result, Ok, Err, IsTrue, IfOk, refl, sym, ◌∙◌, ap, subst, arith}
+use Rattle.std.proofs.Common.{◌≡◌, ◌≤◌, ℕ, ℤ, Bool, true, List, Option, Some, None, Result, Ok, Err, IsTrue, IfOk, refl, sym, ◌∙◌, ap, subst, arith}
 use Rattle.updater_text.specs.declared.stops.NoMemory.{NoMemory}
 use Rattle.machine.specs.declared.stops.Fault.{Fault}
 use Rattle.machine.specs.declared.stops.Stop.{Stop}
 use Rattle.machine.specs.declared.stops.Stop.TheVariants as stop
 use Rattle.machine.specs.declared.world.World.{World}
-use Rattle.machine.specs.Past.{Past, Always, Fails, Grows, moments_since, world_now}
+use Rattle.machine.specs.Past.{Past, Always, Fails, Grows, world_now}
 use Rattle.machine.specs.Frames.{Unchanged}
 use Rattle.machine.specs.Runs.{ReadsOnce}
 use Rattle.machine.proofs.CallsMade.{once_grows, once_now}

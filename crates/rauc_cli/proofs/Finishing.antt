@@ -19,7 +19,7 @@ use Rattle.rauc_cli.specs.declared.outcome.Ran.{Ran}
 use Rattle.rauc_cli.specs.declared.outcome.Report.{Report}
 use Rattle.rauc_cli.specs.Lines.{memory_after, memory_report}
 use Rattle.rauc_cli.specs.Plans.{AfterAStop, Plan, ReportsBy, fault_in, plan_of}
-use Rattle.rauc_cli.specs.Ends.{AsksFor, CarriesOut, CommandTexts, Ended, HasCause, HasLines, HasTexts, InfoTexts, LacksMemory, MarkTexts, OutcomeCounted, Reports, RunTexts, RunsBy, SlotTexts, StandsAStop, StatusTexts, TellsRest}
+use Rattle.rauc_cli.specs.Ends.{AskedStands, AsksFor, CarriesOut, CommandTexts, Ended, HasCause, HasLines, HasTexts, InfoTexts, LacksMemory, MarkTexts, OutcomeCounted, Reports, RunTexts, RunsBy, SlotTexts, StandsAStop, StatusTexts, TellsRest}
 use Rattle.rauc_cli.proofs.Behind.{writes_more}
 use Rattle.rauc_cli.proofs.Installs.{no_install}
 use Rattle.rauc_cli.proofs.Sparing.{running_planned, truth_planned}
@@ -90,10 +90,10 @@ module _ (t : Bool) (words : List (List ℕ)) (a b : Past) where
   pub carries_lacking : (old mid : Shown) (memory : NoMemory) (whole : Bool) → Runs old mid (record { report = Err memory; whole = whole }) → CarriesOut t words (a, b) end.NoMemory
   carries_lacking old mid memory whole runs = carries_memory memory runs.ended
 
-  pub stands : (result : Result Report NoMemory) → Ended t (plan_of words a b) a b result → StandsAStop t words (a, b)
-  stands result ended =
+  pub stands : (result : Result Report NoMemory) → Ended t (plan_of words a b) a b result → AskedStands t (command_of words) a b → StandsAStop t words (a, b)
+  stands result ended install =
       let held : IsTrue t → (v : World) → Held a b v → AfterAStop plan.effect (world_now a) v = λ tells v h. held_planned plan.effect a b (ended.on_the_way tells) v h in
-      record { held = held; running = running_planned t (command_of words) a b held; truth = truth_planned t (command_of words) a b held }
+      record { held = held; running = running_planned t (command_of words) a b held install; truth = truth_planned t (command_of words) a b held; install = install }
 
 -- the words
 asks_run : (run : Run) (outcome : Outcome) (report : Report) → RunTexts run outcome report → report.outcome ≡ outcome → AsksFor (Some (asked.Run run)) outcome

@@ -20,20 +20,17 @@ use Rattle.install_facts.specs.declared.facts.Facts.{Facts}
 use Rattle.install_facts.specs.declared.refusal.InstallRefusal.{InstallRefusal}
 use Rattle.install_facts.specs.declared.report.Note.{Note}
 use Rattle.install_facts.specs.declared.request.Request.{Request}
-use Rattle.install_steps.specs.declared.running.Installed.{Installed}
 use Rattle.install_core.specs.Course.{Answer, Course, Follows, Works, first_note}
 use Rattle.install_core.specs.Done.{DoneAtSuccess}
 use Rattle.install_core.specs.Faults.{FaultTold}
 use Rattle.install_core.specs.Untouched.{LeavesUntouched}
-use Rattle.install_core.specs.declared.ending.InstallEnd.{InstallEnd}
 use Rattle.install_notes.specs.Lines.{Tells, note_line, note_lines}
 use Rattle.install_notes.specs.declared.telling.Told.{Told}
 use Rattle.rauc_cli.specs.declared.outcome.Outcome.{Outcome}
 use Rattle.rauc_cli.specs.declared.outcome.Outcome.TheVariants as end
-use Rattle.rauc_cli.specs.declared.outcome.Ran.{Ran}
 use Rattle.rauc_cli.specs.declared.outcome.Report.{Report}
 use Rattle.rauc_cli.specs.Lines.{install_report, install_warnings, installed_line, outside, report_by}
-use Rattle.rauc_cli.specs.Plans.{InstallEnds, InstallReported, IsPlanned, NotBegun, ReportsBy, install_plan}
+use Rattle.rauc_cli.specs.Plans.{IsPlanned, ReportsBy, install_plan}
 use Rattle.rauc_cli.specs.Ends.{Ended, InstallTexts, NoteLines, RunsBy, behind}
 
 -- ---- its plan: each failed call is told by the report itself

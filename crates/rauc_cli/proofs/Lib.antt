@@ -7,4 +7,5 @@ pub mod Installs
 pub mod Loading
 pub mod SlotCommands
 pub mod Sparing
+pub mod Standing
 pub mod Stopping

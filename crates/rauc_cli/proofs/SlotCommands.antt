@@ -1,5 +1,5 @@
 -- Status and marks are carried out.
-use Rattle.std.proofs.Common.{◌≡◌, inl, ℕ, ℤ, Bool, List, Option, Some, None, Result, Ok, Err, IsTrue, IfOk, refl}
+use Rattle.std.proofs.Common.{ℕ, Bool, List, Option, Some, None, Result, Ok, Err, IsTrue, IfOk, refl}
 use Rattle.updater_text.specs.declared.form.Form.{Form}
 use Rattle.updater_text.specs.declared.stops.NoMemory.{NoMemory}
 use Rattle.machine.specs.declared.stops.Stop.{Stop}
@@ -11,8 +11,6 @@ use Rattle.machine.specs.World.{file}
 use Rattle.machine.proofs.Moments.{always_now, always_weaker}
 use Rattle.boot_backends.specs.declared.refusal.BootRefusal.{BootRefusal}
 use Rattle.boot_backends.specs.Marked.{OnlyReadVars, names_of}
-use Rattle.boot_backends.specs.Through.{Through}
-use Rattle.boot_commands.specs.Effects.{commands_of}
 use Rattle.system_conf.specs.Configuration.{Configuration}
 use Rattle.status_file.specs.Clock.{clock_since}
 use Rattle.status_report.specs.declared.view.StatusView.{StatusView}
@@ -21,8 +19,7 @@ use Rattle.slot_marks.specs.declared.naming.Action.{Action}
 use Rattle.slot_marks.specs.declared.naming.Marked.{Marked}
 use Rattle.slot_marks.specs.declared.refusal.MarkRefusal.{MarkRefusal}
 use Rattle.slot_marks.specs.Answers.{LeadsAt, LeadsTo, MarkAnswers, Marks, OfChosen}
-use Rattle.slot_marks.specs.Marking.{bootname_text, mark_of}
-use Rattle.slot_marks.specs.Noting.{ThroughWith, new_text, noted_by}
+use Rattle.slot_marks.specs.Noting.{new_text, noted_by}
 use Rattle.rauc_cli.specs.declared.outcome.Report.{Report}
 use Rattle.rauc_cli.specs.Lines.{mark_report, status_report}
 use Rattle.rauc_cli.specs.Plans.{AtTheEnd, Effect, OnTheWay, Plan, mark_effect, mark_plan, marking_at, marking_with, status_plan}

@@ -44,7 +44,7 @@ use Rattle.slot_writer.proofs.StayingTrue.{truth_kept}
 use Rattle.slot_writer.proofs.Targets.{slot_there}
 use Rattle.rauc_cli.specs.Conf.{of_conf, of_file, of_groups, system_at, system_in}
 use Rattle.rauc_cli.specs.declared.conf.NoSystem.{NoSystem}
-use Rattle.rauc_cli.specs.Ends.{RunningOf, TruthOf}
+use Rattle.rauc_cli.specs.Ends.{AskedStands, CommandStands, SystemStands, TruthOf}
 use Rattle.rauc_cli.specs.Plans.{AfterAStop, Effect, From, Put, Nothing, Front, Children, Reading, Marking, Installing, asked_plan, booted_for, command_plan, given_by, mark_effect, marking_at, marking_with, slot_plan, slots_by, slots_for, system_plan}
 
 -- ---- the slots of a configuration have devices of their own
@@ -193,13 +193,39 @@ module _ (a c : Past) (spares : Spares) (children : List Child) (at : ℕ) (slot
   asked_spares (Some asked.Help) e there = let bad : ⊥ = cc in absurd bad
   asked_spares None e there = let bad : ⊥ = cc in absurd bad
 
+-- only an install has no effect of its own
+module _ (a c : Past) where
+  slot_installs : (system : Configuration) (name image : List ℕ) (r : Result SlotWritten SlotRefusal) → (slot_plan system name image r).effect ≡ Installing → ⊥
+  slot_installs system name image (Ok written) e = let bad : ⊥ = cc in bad
+  slot_installs system name image (Err refusal) e = let bad : ⊥ = cc in bad
+
+  mark_installs : {e : Effect} → IsMarking e → e ≡ Installing → ⊥
+  mark_installs not_at_all e = let bad : ⊥ = cc in bad
+  mark_installs (by_commands machine commands put) e = let bad : ⊥ = cc in bad
+
+  command_installs : (t : Bool) (given : Option (List ℕ)) (system : Configuration) (command : Command) → (command_plan a c system given command).effect ≡ Installing → CommandStands t system given command a c → RunningKept t system.slots (what_runs system.slots given (world_now a)) a c
+  command_installs t given system (Install bundle ignored) e safe = safe.running
+  command_installs t given system (WriteSlot name image) e safe = absurd (slot_installs system name image (slot_answer system given name image (world_now a)) e)
+  command_installs t given system (Info bundle form) e safe = let bad : ⊥ = cc in absurd bad
+  command_installs t given system (Status form detailed) e safe = let bad : ⊥ = cc in absurd bad
+  command_installs t given system (Mark act who) e safe = absurd (mark_installs (mark_changes a c given system act who) e)
+
+  system_installs : (t : Bool) (run : Run) (r : Result Configuration NoSystem) → (system_plan a c run r).effect ≡ Installing → SystemStands t run r a c → RunningKept t (slots_by r) (what_runs (slots_by r) run.place.given (world_now a)) a c
+  system_installs t run (Ok system) e safe = command_installs t run.place.given system run.command e safe
+  system_installs t run (Err refusal) e safe = let bad : ⊥ = cc in absurd bad
+
+  asked_installs : (t : Bool) (asked : Option Asked) → (asked_plan a c asked).effect ≡ Installing → AskedStands t asked a c → RunningKept t (slots_for asked (world_now a)) (booted_for asked (world_now a)) a c
+  asked_installs t (Some (asked.Run run)) e safe = system_installs t run (system_at (world_now a) (conf_path run.place)) e safe
+  asked_installs t (Some asked.Help) e safe = let bad : ⊥ = cc in absurd bad
+  asked_installs t None e safe = let bad : ⊥ = cc in absurd bad
+
 -- so what runs keeps its bytes
-pub running_planned : (t : Bool) (asked : Option Asked) (a c : Past) → (IsTrue t → (v : World) → Held a c v → AfterAStop (asked_plan a c asked).effect (world_now a) v) → RunningOf (asked_plan a c asked).effect t (slots_for asked (world_now a)) (booted_for asked (world_now a)) a c
+pub running_planned : (t : Bool) (asked : Option Asked) (a c : Past) → (IsTrue t → (v : World) → Held a c v → AfterAStop (asked_plan a c asked).effect (world_now a) v) → AskedStands t asked a c → RunningKept t (slots_for asked (world_now a)) (booted_for asked (world_now a)) a c
 unfolding with_file
-running_planned t asked a c left = by (asked_plan a c asked).effect refl left
+running_planned t asked a c left install = by (asked_plan a c asked).effect refl left
   where
-    by : (e : Effect) → (asked_plan a c asked).effect ≡ e → (IsTrue t → (v : World) → Held a c v → AfterAStop e (world_now a) v) → RunningOf e t (slots_for asked (world_now a)) (booted_for asked (world_now a)) a c
-    by Installing is left = tt
+    by : (e : Effect) → (asked_plan a c asked).effect ≡ e → (IsTrue t → (v : World) → Held a c v → AfterAStop e (world_now a) v) → RunningKept t (slots_for asked (world_now a)) (booted_for asked (world_now a)) a c
+    by Installing is left = asked_installs a c t asked is install
     by (Front system image written) is left =
         let writes = plan_writes a c asked system image written is in
         subst (λ (slots : List Slot). RunningKept t slots (what_runs slots (given_by asked) (world_now a)) a c) (sym writes.has)

@@ -1,5 +1,5 @@
 -- What a stop may leave.
-use Rattle.std.proofs.Common.{inl, inr, ℕ, List, [], Option, Some, None, Ok, subst, sym, arith}
+use Rattle.std.proofs.Common.{inl, inr, ℕ, List, [], Some, None, Ok, subst, arith}
 use Rattle.machine.specs.declared.world.World.{World}
 use Rattle.machine.specs.World.{with_file}
 use Rattle.boot_backends.specs.Through.{StoppedThrough, Through}

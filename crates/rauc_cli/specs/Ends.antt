@@ -27,16 +27,17 @@ use Rattle.child_steps.specs.declared.close.Closing.{Closing}
 use Rattle.child_steps.specs.declared.close.Closing.TheVariants as closing
 use Rattle.install_facts.specs.declared.report.Note.{Note}
 use Rattle.install_core.specs.Course.{Answer, IsEnd}
+use Rattle.install_core.specs.CrashSafe.{IsCrashSafe}
 use Rattle.install_core.specs.declared.ending.InstallEnd.{InstallEnd}
 use Rattle.install_notes.specs.Lines.{note_lines}
 use Rattle.mark_report.specs.declared.bundle_info.InfoRefusal.{InfoRefusal}
 use Rattle.mark_report.specs.declared.bundle_info.InfoRefusal.TheVariants.{Mount, Bundle}
-use Rattle.slot_writer.specs.declared.refusal.SlotRefusal.{SlotRefusal}
 use Rattle.slot_writer.specs.declared.refusal.SlotWritten.{SlotWritten}
 use Rattle.slot_writer.specs.Checks.{NamesSlot}
-use Rattle.slot_graph.specs.declared.state.Booted.{Booted}
 use Rattle.running_system.specs.Running.{RunningKept}
 use Rattle.status_file.specs.Truth.{TruthKept}
+use Rattle.rauc_cli.specs.Conf.{system_at}
+use Rattle.rauc_cli.specs.declared.conf.NoSystem.{NoSystem}
 use Rattle.rauc_cli.specs.declared.conf.NoSystem.TheVariants.{Missing, Bad}
 use Rattle.rauc_cli.specs.declared.outcome.Outcome.{Outcome}
 use Rattle.rauc_cli.specs.declared.outcome.Outcome.TheVariants as end
@@ -44,7 +45,7 @@ use Rattle.rauc_cli.specs.declared.outcome.Report.{Report}
 use Rattle.rauc_cli.specs.declared.outcome.Finish.{Finish}
 use Rattle.rauc_cli.specs.declared.outcome.Ran.{Ran}
 use Rattle.rauc_cli.specs.Lines.{boot_refusal_report, closing_warnings, fault_report, help_report, info_refusal_report, install_report, installed_line, mark_refusal_report, marked_report, memory_after, no_system_report, outside, slot_refusal_report, told_report, usage_report, view_report, written_report}
-use Rattle.rauc_cli.specs.Plans.{Effect, Front, Installing, Plan, AfterAStop, AtTheEnd, IsPlanned, OnTheWay, booted_for, fault_in, plan_of, slots_for}
+use Rattle.rauc_cli.specs.Plans.{Effect, Front, Plan, AfterAStop, AtTheEnd, IsPlanned, OnTheWay, booted_for, fault_in, plan_of, request_of, slots_for}
 
 -- ---- texts: told or not, a report's texts are those of its outcome
 
@@ -204,16 +205,26 @@ abbrev pub TruthOf : Effect → Bool → Past → Past → Type 0
 TruthOf (Front system image written) tells old new = TruthKept tells system old new
 TruthOf effect tells old new = Unit {0}
 
--- but for an install, of which it is not said here: what runs keeps its bytes
-abbrev pub RunningOf : Effect → Bool → List Slot → Booted → Past → Past → Type 0
-RunningOf Installing tells slots booted old new = Unit {0}
-RunningOf effect tells slots booted old new = RunningKept tells slots booted old new
+-- an install, with a configuration: all that holds of it wherever the power stops
+abbrev pub CommandStands : Bool → Configuration → Option (List ℕ) → Command → Past → Past → Type 0
+CommandStands tells system given (Install bundle ignored) old new = IsCrashSafe tells system (request_of given bundle ignored) old new
+CommandStands tells system given command old new = Unit {0}
 
--- where told, and wherever the power stops: only what the plan may change has changed, and what runs keeps its bytes
+abbrev pub SystemStands : Bool → Run → Result Configuration NoSystem → Past → Past → Type 0
+SystemStands tells run (Ok system) old new = CommandStands tells system run.place.given run.command old new
+SystemStands tells run (Err refusal) old new = Unit {0}
+
+-- the same by the words, with the configuration of the start
+abbrev pub AskedStands : Bool → Option Asked → Past → Past → Type 0
+AskedStands tells (Some (asked.Run run)) old new = SystemStands tells run (system_at (world_now old) (conf_path run.place)) old new
+AskedStands tells asks old new = Unit {0}
+
+-- where told, and wherever the power stops: only what the plan may change has changed, what runs keeps its bytes, and an install is safe
 pub record StandsAStop (tells : Bool) (words : List (List ℕ)) (past : Past × Past) : Type 0 where
   pub held : IsTrue tells → (v : World) → Held past.0 past.1 v → AfterAStop (plan_of words past.0 past.1).effect (world_now past.0) v
-  pub running : RunningOf (plan_of words past.0 past.1).effect tells (slots_for (command_of words) (world_now past.0)) (booted_for (command_of words) (world_now past.0)) past.0 past.1
+  pub running : RunningKept tells (slots_for (command_of words) (world_now past.0)) (booted_for (command_of words) (world_now past.0)) past.0 past.1
   pub truth : TruthOf (plan_of words past.0 past.1).effect tells past.0 past.1
+  pub install : AskedStands tells (command_of words) past.0 past.1
 
 -- told or not: `Help` comes exactly where the words ask for help, and `Usage` exactly where they ask for nothing
 abbrev pub AsksFor : Option Asked → Outcome → Type 0

@@ -1,6 +1,7 @@
 ghost use Rattle.std.specs.Prelude.{◌≡◌, IfOk, option_map};
 ghost use Rattle.machine.specs.Stops.{StopCounted};
 ghost use Rattle.system_conf.specs.Reads.{system_configuration};
+ghost use Rattle.install_core.specs.CrashSafe.{IsCrashSafe};
 ghost use Rattle.rauc_cli.specs.Ends.{InstallTexts, NoteLines, OutcomeCounted, RunsBy, outcome_in};
 ghost use Rattle.rauc_cli.specs.Lines as spec;
 ghost use Rattle.rauc_cli.specs.Plans.{install_plan, request_of};
@@ -68,6 +69,8 @@ pub fn run_install<M: Machine, O: Sink>(
         let r = request_of (option_map (λ name. name.now) given.entry) bundle.now ignore_compatible in
         let plan = install_plan c r (M.past m.old) (M.past m.new) in
         RunsBy M.tells plan (InstallTexts bundle.now) NoteLines (M.past m.old) (M.past m.new) (O.shown out.old) (O.shown out.new) result }
+    ensures stands { let r = request_of (option_map (λ name. name.now) given.entry) bundle.now ignore_compatible in
+        IsCrashSafe M.tells (system_configuration system.now) r (M.past m.old) (M.past m.new) }
     ensures counts { OutcomeCounted (M.faults m.old) (M.faults m.new) (M.wants m.old) (M.wants m.new) (outcome_in result.report) }
 {
     match asks_of(alloc, given, bundle, ignore_compatible) {

@@ -10,7 +10,7 @@ ghost use Rattle.slot_marks.specs.Marking.{choice};
 ghost use Rattle.status_file.specs.Clock.{clock_since};
 ghost use Rattle.slot_writer.specs.Slots.{slot_answer};
 ghost use Rattle.rauc_cli.specs.Plans.{asked_plan, command_plan, info_plan, mark_plan, plan_of, slot_plan, status_plan};
-ghost use Rattle.rauc_cli.specs.Ends.{CarriesOut, CommandLines, CommandTexts, Ended, HasCause, HasLines, HasTexts, InfoTexts, MarkTexts, OutcomeCounted, Reports, RunsBy, SlotTexts, StandsAStop, StatusTexts, TellsRest, outcome_in};
+ghost use Rattle.rauc_cli.specs.Ends.{AskedStands, CarriesOut, CommandLines, CommandStands, CommandTexts, Ended, HasCause, HasLines, HasTexts, InfoTexts, MarkTexts, OutcomeCounted, Reports, RunsBy, SlotTexts, StandsAStop, StatusTexts, TellsRest, outcome_in};
 
 use crate::info_lines::info_report;
 use crate::installing::run_install;
@@ -116,6 +116,8 @@ fn run_command<M: Machine, O: Sink>(
     ensures runs { let c = system_configuration system.now in
         let plan = command_plan (M.past m.old) (M.past m.new) c (option_map (λ name. name.now) given.entry) command.now in
         RunsBy M.tells plan (CommandTexts command.now) (CommandLines command.now) (M.past m.old) (M.past m.new) (O.shown out.old) (O.shown out.new) result }
+    ensures stands { let c = system_configuration system.now in
+        CommandStands M.tells c (option_map (λ name. name.now) given.entry) command.now (M.past m.old) (M.past m.new) }
     ensures counts { OutcomeCounted (M.faults m.old) (M.faults m.new) (M.wants m.old) (M.wants m.new) (outcome_in result.report) }
 {
     match command {
@@ -161,6 +163,7 @@ fn run_asked<M: Machine, O: Sink>(alloc: Global, m: &mut M, run: &Run, out: &mut
     ensures runs { let asks = Some (asked.Run run.now) in
         let plan = asked_plan (M.past m.old) (M.past m.new) asks in
         RunsBy M.tells plan (HasTexts asks) (HasLines asks) (M.past m.old) (M.past m.new) (O.shown out.old) (O.shown out.new) result }
+    ensures stands { AskedStands M.tells (Some (asked.Run run.now)) (M.past m.old) (M.past m.new) }
     ensures counts { OutcomeCounted (M.faults m.old) (M.faults m.new) (M.wants m.old) (M.wants m.new) (outcome_in result.report) }
 {
     let path = run.place.conf_path();
@@ -177,6 +180,7 @@ fn run<M: Machine, O: Sink>(alloc: Global, m: &mut M, words: &[Text], out: &mut 
     ensures runs { let asks = command_of words.now in
         let plan = plan_of words.now (M.past m.old) (M.past m.new) in
         RunsBy M.tells plan (HasTexts asks) (HasLines asks) (M.past m.old) (M.past m.new) (O.shown out.old) (O.shown out.new) result }
+    ensures stands { AskedStands M.tells (command_of words.now) (M.past m.old) (M.past m.new) }
     ensures counts { OutcomeCounted (M.faults m.old) (M.faults m.new) (M.wants m.old) (M.wants m.new) (outcome_in result.report) }
 {
     match read_words(alloc, words) {

@@ -8,6 +8,7 @@ use Rattle.install_core.proofs.Going.{installs_mounted, installs_unmounted}
 use Rattle.install_core.proofs.AllDone.{done_at_success}
 use Rattle.install_core.proofs.FaultsTold.{fault_told}
 use Rattle.install_core.proofs.LeftUntouched.{leaves_untouched}
+use Rattle.install_core.proofs.CrashSafety.{install_is_safe}
 use Rattle.child_steps.specs.declared.close.Closing.TheVariants as closing
 use Rattle.install_core.proofs.UnmountCounts.{counted_as, counted_since, none_counted}
 use Rattle.install_core.proofs.installing.install.Goals as goal
@@ -28,6 +29,12 @@ returns-in-Ok-clause-untouched g c = leaves_untouched _ _ c.args.request.now _ _
 
 pub returns-in-Err-clause-untouched : goal.returns-in-Err-clause-untouched
 returns-in-Err-clause-untouched g c = leaves_untouched _ _ c.args.request.now _ _ _ _ c.end_of-in-Err.result (returns-in-Err-clause-course g c)
+
+pub returns-in-Ok-clause-crash_safe : goal.returns-in-Ok-clause-crash_safe
+returns-in-Ok-clause-crash_safe g c = install_is_safe c.args.system.now _ c.args.request.now _ _ _ _ c.end_of.result (returns-in-Ok-clause-course g c)
+
+pub returns-in-Err-clause-crash_safe : goal.returns-in-Err-clause-crash_safe
+returns-in-Err-clause-crash_safe g c = install_is_safe c.args.system.now _ c.args.request.now _ _ _ _ c.end_of-in-Err.result (returns-in-Err-clause-course g c)
 
 pub returns-in-Ok-clause-done : goal.returns-in-Ok-clause-done
 returns-in-Ok-clause-done g c = done_at_success _ _ c.args.request.now _ _ _ _ c.end_of.result (returns-in-Ok-clause-course g c)

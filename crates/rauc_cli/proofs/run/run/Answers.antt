@@ -4,6 +4,8 @@ use Rattle.rauc_cli.specs.Lines.{help_report, usage_report}
 use Rattle.rauc_cli.specs.Plans.{plan_of}
 use Rattle.rauc_cli.proofs.Behind.{asked_lines, ran_quiet, words_quiet}
 use Rattle.rauc_cli.proofs.Ending.{ended_here, ended_wanting}
+use Rattle.rauc_cli.proofs.Standing.{asked_none}
+use Rattle.rauc_words.specs.Table.{command_of}
 use Rattle.rauc_cli.proofs.run.run.Goals as goal
 
 pub returns-in-Ok-Some-Help-clause-runs : goal.returns-in-Ok-Some-Help-clause-runs
@@ -17,3 +19,6 @@ returns-in-Ok-None-clause-runs g c =
 pub returns-in-Err-clause-runs : goal.returns-in-Err-clause-runs
 returns-in-Err-clause-runs g c =
     ran_quiet _ _ _ _ _ _ _ _ c.quiet-in-Err.result c.quiet-in-Err.ensures (asked_lines _) (ended_wanting _ (plan_of c.args.words.now (g.M.Machine.past c.args.m.now) (g.M.Machine.past c.args.m.now)) _ c.in-Err.stop) tt
+
+pub returns-in-Err-clause-stands : goal.returns-in-Err-clause-stands
+returns-in-Err-clause-stands g c = asked_none g.M.Machine.tells (command_of c.args.words.now) (g.M.Machine.past c.args.m.now)
